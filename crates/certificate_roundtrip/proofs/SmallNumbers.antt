@@ -23,24 +23,27 @@ use Rattle.rules_table.specs.Table.{needs}
 use Rattle.rules_table.specs.Walk.{Around, has_defined, program_of, rule_of}
 use Rattle.rules_table.proofs.EachLaws.{Each, from_all, each_at}
 use Rattle.rules_table.proofs.SiteLaws.{met}
-use Rattle.safety_rules.specs.declared.places.Derived.{Derived}
-use Rattle.safety_rules.specs.Answers.{derived_of}
-use Rattle.rules_steps.specs.Starts.{document_seen}
-use Rattle.rules_steps.specs.Using.{BookFits}
-use Rattle.rules_steps.proofs.GoalLaws.{IsStepRow, told_step}
-use Rattle.rules_steps.proofs.ItemLaws.{to_all}
-use Rattle.proof_plans.specs.declared.plans.Plan.{Plan}
-use Rattle.proof_plans.specs.Giving.{AreWhole}
+use Rattle.proof_script.specs.from_safety_rules.declared.places.Derived.{Derived}
+use Rattle.proof_script.specs.from_safety_rules.Answers.{derived_of}
+use Rattle.proof_script.specs.from_rules_steps.Starts.{document_seen}
+use Rattle.proof_script.specs.from_rules_steps.Using.{BookFits}
+use Rattle.proof_script.proofs.lemmas_from_rules_steps.GoalLaws.{IsStepRow, told_step}
+use Rattle.proof_script.proofs.lemmas_from_rules_steps.ItemLaws.{to_all}
+use Rattle.proof_script.specs.from_proof_plans.declared.plans.Plan.{Plan}
+use Rattle.proof_script.specs.from_proof_plans.Giving.{AreWhole}
 use Rattle.proof_script.specs.Proving.{AreFound}
-use Rattle.proof_plans.specs.Reaching.{by_row}
-use Rattle.proof_plans.specs.Verdicts.{end_verdict, failing, failing_node, grown, last_verdict, no_plan}
-use Rattle.proof_plans.specs.Verdicts.{or_refutation_fault, or_rule_fault, proof_verdict, proofs_verdict, refuted_by}
-use Rattle.proof_plans.specs.Verdicts.{most_levels, step_verdict, steps_verdict, surplus_fault, taken}
-use Rattle.proof_plans.proofs.Equations.{proofs-more, proofs-none, refuted-more, step-is, steps-more, steps-none}
-use Rattle.proof_plans.proofs.Equations.{taken-is, then_so}
-use Rattle.proof_plans.proofs.LoopLaws.{named_program, rule_passed}
-use Rattle.proof_plans.proofs.ReachLaws.{reach-is, reach_fits}
-use Rattle.proof_plans.proofs.VerdictLaws.{unfailing}
+use Rattle.proof_script.specs.from_proof_plans.Reaching.{by_row}
+use Rattle.proof_script.specs.from_proof_plans.Verdicts.{end_verdict, failing, failing_node, grown, last_verdict}
+use Rattle.proof_script.specs.from_proof_plans.Verdicts.{no_plan}
+use Rattle.proof_script.specs.from_proof_plans.Verdicts.{or_refutation_fault, or_rule_fault, proof_verdict}
+use Rattle.proof_script.specs.from_proof_plans.Verdicts.{proofs_verdict, refuted_by}
+use Rattle.proof_script.specs.from_proof_plans.Verdicts.{most_levels, step_verdict, steps_verdict, surplus_fault, taken}
+use Rattle.proof_script.proofs.lemmas_from_proof_plans.Equations.{proofs-more, proofs-none, refuted-more, step-is}
+use Rattle.proof_script.proofs.lemmas_from_proof_plans.Equations.{steps-more, steps-none}
+use Rattle.proof_script.proofs.lemmas_from_proof_plans.Equations.{taken-is, then_so}
+use Rattle.proof_script.proofs.lemmas_from_proof_plans.LoopLaws.{named_program, rule_passed}
+use Rattle.proof_script.proofs.lemmas_from_proof_plans.ReachLaws.{reach-is, reach_fits}
+use Rattle.proof_script.proofs.lemmas_from_proof_plans.VerdictLaws.{unfailing}
 use Rattle.certificate_roundtrip.specs.TextLaws.{ProvedAreSmall}
 
 no_fault : (program step number : ℕ) (code : Option Code) (done : Unit {0}) →

@@ -7,10 +7,10 @@ use Rattle.unity_syntax.specs.Classes.{says_later}
 use Rattle.unity_parser.specs.Document.{IsDocument}
 use Rattle.obligations.specs.declared.certificates.Cert.{Cert}
 use Rattle.certificate_roundtrip.specs.Small.{IsSmallCertificate}
-use Rattle.proof_plans.specs.declared.plans.Plan.{Plan}
-use Rattle.proof_plans.specs.Giving.{AreWhole}
+use Rattle.proof_script.specs.from_proof_plans.declared.plans.Plan.{Plan}
+use Rattle.proof_script.specs.from_proof_plans.Giving.{AreWhole}
 use Rattle.proof_script.specs.Proving.{units_of, AreFound, HasNoQuotients, ProvedWithin}
-use Rattle.proof_plans.specs.Verdicts.{verdict_of}
+use Rattle.proof_script.specs.from_proof_plans.Verdicts.{verdict_of}
 use Rattle.certificate_roundtrip.specs.Found.{text_with}
 use Rattle.certificate_roundtrip.specs.DocumentLaws.{IsWith}
 

@@ -3,11 +3,11 @@ use Rattle.std.proofs.Common.{◌≡◌, ℕ, zero, suc, nat_lt, nat_le, ℤ, po
 use Rattle.std.proofs.Common.{Option, Some, None, Result, Ok, Err, List, [], ◌∷◌, map, length, slice_get, arith, refl}
 use Rattle.std.proofs.Common.{ap, ◌∙◌, subst, ◌||◌}
 use Rattle.std.specs.Prelude.{remove}
-use Rattle.case_tables.specs.declared.code_table.Code.{Code}
-use Rattle.core_terms.specs.declared.trees.CTerm.{CTerm}
-use Rattle.core_terms.specs.declared.trees.CForm.{CForm, out-CForm, fold_out-CForm}
-use Rattle.core_terms.specs.declared.trees.CForm.TheFolds.{map-CForm}
-use Rattle.core_terms.specs.declared.trees.CForm.TheOpen.{CForm-F}
+use Rattle.obligations.specs.from_case_tables.declared.code_table.Code.{Code}
+use Rattle.obligations.specs.from_core_terms.declared.trees.CTerm.{CTerm}
+use Rattle.obligations.specs.from_core_terms.declared.trees.CForm.{CForm, out-CForm, fold_out-CForm}
+use Rattle.obligations.specs.from_core_terms.declared.trees.CForm.TheFolds.{map-CForm}
+use Rattle.obligations.specs.from_core_terms.declared.trees.CForm.TheOpen.{CForm-F}
 use Rattle.obligations.specs.declared.branches.Branch.{Branch}
 use Rattle.obligations.specs.declared.branches.Fact.{Fact}
 use Rattle.obligations.specs.declared.branches.Line.{Line}

@@ -7,9 +7,9 @@ use Rattle.std.specs.List.{list_all}
 use Rattle.std.specs.Option.{option_and_then}
 use Rattle.std.proofs.lemmas.List.Folds.{list_all-append}
 use Rattle.std.proofs.lemmas.Bool.{and_parts, le-leb}
-use Rattle.case_tables.specs.declared.code_table.Code.{Code}
-use Rattle.core_terms.specs.declared.trees.CForm.{CForm}
-use Rattle.core_terms.specs.Sizes.{form_nodes}
+use Rattle.obligations.specs.from_case_tables.declared.code_table.Code.{Code}
+use Rattle.obligations.specs.from_core_terms.declared.trees.CForm.{CForm}
+use Rattle.obligations.specs.from_core_terms.Sizes.{form_nodes}
 use Rattle.obligations.specs.declared.branches.Branch.{Branch}
 use Rattle.obligations.specs.declared.branches.Fact.{Fact}
 use Rattle.obligations.specs.declared.branches.Line.{Line}

@@ -10,13 +10,13 @@ use Rattle.std.proofs.lemmas.Int.{ints}
 use Rattle.std.proofs.lemmas.Bool.{true≢false, and_parts, false_from_ne_true, not-true}
 use Rattle.std.proofs.lemmas.List.Folds.{list_all-append}
 use lib.IntN.{*ℤ_comm, zero-*ℤ, *ℤ-zero}
-use Rattle.core_terms.specs.declared.trees.CForm.{CForm, out-CForm, fold_out-CForm}
-use Rattle.core_terms.specs.declared.trees.CForm.TheFolds.{map-CForm}
-use Rattle.core_terms.specs.Values.{number_at, form_step}
-use Rattle.core_terms.specs.declared.trees.CTerm.{CTerm}
-use Rattle.core_terms.specs.declared.trees.CForm.TheOpen.{CForm-F}
+use Rattle.obligations.specs.from_core_terms.declared.trees.CForm.{CForm, out-CForm, fold_out-CForm}
+use Rattle.obligations.specs.from_core_terms.declared.trees.CForm.TheFolds.{map-CForm}
+use Rattle.obligations.specs.from_core_terms.Values.{number_at, form_step}
+use Rattle.obligations.specs.from_core_terms.declared.trees.CTerm.{CTerm}
+use Rattle.obligations.specs.from_core_terms.declared.trees.CForm.TheOpen.{CForm-F}
 use Rattle.meaning_states.specs.State.{int_eq}
-use Rattle.case_tables.specs.declared.code_table.Code.{Code}
+use Rattle.obligations.specs.from_case_tables.declared.code_table.Code.{Code}
 use Rattle.obligations.specs.declared.branches.Fact.{Fact}
 use Rattle.obligations.specs.declared.branches.Branch.{Branch}
 use Rattle.obligations.specs.declared.branches.Variable.{Variable}

@@ -1,19 +1,24 @@
 -- How many facts and waiting formulas settling a formula adds at most.
 use Rattle.std.proofs.Common.{◌≡◌, ℕ, ◌+◌, ◌≤◌, max, ℤ, pos, negsuc, List, [], ◌∷◌, ◌++◌, length, Option, Some, None}
 use Rattle.std.proofs.Common.{Bool, true, false, cond, arith, refl, sym, ap, ◌∙◌, subst, length-append}
-use Rattle.core_terms.specs.declared.trees.CTerm.{CTerm, roll-CTerm, fold-CTerm, fold-roll-CTerm}
-use Rattle.core_terms.specs.declared.trees.CTerm.TheVariants.{Const, Param, Add, Sub, Scale, Ite, Div, Mod}
-use Rattle.core_terms.specs.declared.trees.CTerm.TheVariants.{rolls-Const, rolls-Param, rolls-Add, rolls-Div}
-use Rattle.core_terms.specs.declared.trees.CTerm.TheVariants.{rolls-Mod}
-use Rattle.core_terms.specs.declared.trees.CTerm.TheVariants.{rolls-Sub, rolls-Scale, rolls-Ite}
-use Rattle.core_terms.specs.declared.trees.CForm.{CForm, out-CForm, roll-CForm, ind-CForm, fold-CForm, fold-roll-CForm}
-use Rattle.core_terms.specs.declared.trees.CForm.{fold_out-CForm}
-use Rattle.core_terms.specs.declared.trees.CForm.TheVariants.{Top, Bottom, AtLeast, Zero, Not, And, Or, rolls-Top}
-use Rattle.core_terms.specs.declared.trees.CForm.TheVariants.{rolls-Bottom, rolls-AtLeast, rolls-Zero, rolls-Not}
-use Rattle.core_terms.specs.declared.trees.CForm.TheVariants.{rolls-And, rolls-Or}
-use Rattle.core_terms.specs.declared.trees.CForm.TheOpen.{CTerm-F, CForm-F}
-use Rattle.core_terms.specs.declared.trees.CForm.TheFolds.{map-CForm, map-CTerm}
-use Rattle.core_terms.specs.Sizes.{term_size, form_size, term_nodes, form_nodes}
+use Rattle.obligations.specs.from_core_terms.declared.trees.CTerm.{CTerm, roll-CTerm, fold-CTerm, fold-roll-CTerm}
+use Rattle.obligations.specs.from_core_terms.declared.trees.CTerm.TheVariants.{Const, Param, Add, Sub, Scale, Ite, Div}
+use Rattle.obligations.specs.from_core_terms.declared.trees.CTerm.TheVariants.{Mod}
+use Rattle.obligations.specs.from_core_terms.declared.trees.CTerm.TheVariants.{rolls-Const, rolls-Param, rolls-Add}
+use Rattle.obligations.specs.from_core_terms.declared.trees.CTerm.TheVariants.{rolls-Div}
+use Rattle.obligations.specs.from_core_terms.declared.trees.CTerm.TheVariants.{rolls-Mod}
+use Rattle.obligations.specs.from_core_terms.declared.trees.CTerm.TheVariants.{rolls-Sub, rolls-Scale, rolls-Ite}
+use Rattle.obligations.specs.from_core_terms.declared.trees.CForm.{CForm, out-CForm, roll-CForm, ind-CForm, fold-CForm}
+use Rattle.obligations.specs.from_core_terms.declared.trees.CForm.{fold-roll-CForm}
+use Rattle.obligations.specs.from_core_terms.declared.trees.CForm.{fold_out-CForm}
+use Rattle.obligations.specs.from_core_terms.declared.trees.CForm.TheVariants.{Top, Bottom, AtLeast, Zero, Not, And, Or}
+use Rattle.obligations.specs.from_core_terms.declared.trees.CForm.TheVariants.{rolls-Top}
+use Rattle.obligations.specs.from_core_terms.declared.trees.CForm.TheVariants.{rolls-Bottom, rolls-AtLeast, rolls-Zero}
+use Rattle.obligations.specs.from_core_terms.declared.trees.CForm.TheVariants.{rolls-Not}
+use Rattle.obligations.specs.from_core_terms.declared.trees.CForm.TheVariants.{rolls-And, rolls-Or}
+use Rattle.obligations.specs.from_core_terms.declared.trees.CForm.TheOpen.{CTerm-F, CForm-F}
+use Rattle.obligations.specs.from_core_terms.declared.trees.CForm.TheFolds.{map-CForm, map-CTerm}
+use Rattle.obligations.specs.from_core_terms.Sizes.{term_size, form_size, term_nodes, form_nodes}
 use Rattle.obligations.specs.declared.branches.Branch.{Branch}
 use Rattle.obligations.specs.declared.branches.Variable.{Variable}
 use Rattle.obligations.specs.declared.branches.Choice.{Choice}

@@ -8,9 +8,9 @@ use Rattle.std.specs.List.{list_all}
 use Rattle.std.specs.Int.RustNames.{unsigned_abs}
 use Rattle.std.proofs.lemmas.Int.{unsigned_abs-mul, fits_signed_mul}
 use Rattle.std.proofs.lemmas.Bool.{and_parts}
-use Rattle.core_terms.specs.Values.{number_at}
+use Rattle.obligations.specs.from_core_terms.Values.{number_at}
 use Rattle.obligations.specs.Load.{in_limit}
-use Rattle.case_tables.specs.declared.code_table.Code.{Code}
+use Rattle.obligations.specs.from_case_tables.declared.code_table.Code.{Code}
 use Rattle.obligations.specs.declared.branches.Line.{Line}
 use Rattle.obligations.specs.LinearForms.{add_at, zeros}
 use Rattle.std.specs.Int.{int_div_euclid}

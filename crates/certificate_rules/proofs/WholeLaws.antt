@@ -3,8 +3,8 @@ use Rattle.std.proofs.Common.{◌≡◌, ℕ, zero, suc, ◌+◌, ◌≤◌, ℤ
 use Rattle.std.proofs.Common.{Err, List, [], ◌∷◌, ◌++◌, ◌-◌, length, slice_get, nat_lt, length-append}
 use Rattle.std.proofs.Common.{append_assoc, arith, refl, sym, ap, ◌∙◌, subst}
 use Rattle.std.specs.Option.{option_and_then}
-use Rattle.core_terms.specs.declared.trees.CForm.{CForm}
-use Rattle.case_tables.specs.declared.code_table.Code.{Code}
+use Rattle.obligations.specs.from_core_terms.declared.trees.CForm.{CForm}
+use Rattle.obligations.specs.from_case_tables.declared.code_table.Code.{Code}
 use Rattle.obligations.specs.declared.branches.Branch.{Branch}
 use Rattle.obligations.specs.declared.branches.Variable.{Variable}
 use Rattle.obligations.specs.declared.branches.Line.{Line}

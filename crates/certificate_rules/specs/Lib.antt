@@ -1,3 +1,4 @@
+pub use Rattle.obligations.specs as from_obligations
 pub mod Sums
 pub mod Refutation
 pub mod Trees

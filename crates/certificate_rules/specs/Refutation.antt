@@ -2,8 +2,8 @@
 use Rattle.std.specs.Prelude.{◌≡◌, ◌≤◌, nat_lt, ℕ, zero, suc, ◌+◌, ◌-◌, ℤ, pos, ◌+ℤ◌, true, cond, Option}
 use Rattle.std.specs.Prelude.{Some, None, Result, Ok, Err, List, [], ◌∷◌, ◌++◌, map, length, slice_get}
 use Rattle.std.specs.Option.{option_and_then}
-use Rattle.core_terms.specs.declared.trees.CForm.{CForm}
-use Rattle.case_tables.specs.declared.code_table.Code.{Code}
+use Rattle.obligations.specs.from_core_terms.declared.trees.CForm.{CForm}
+use Rattle.obligations.specs.from_case_tables.declared.code_table.Code.{Code}
 use Rattle.obligations.specs.declared.branches.Branch.{Branch}
 use Rattle.obligations.specs.declared.branches.Line.{Line}
 use Rattle.obligations.specs.declared.branches.Variable.{Variable}

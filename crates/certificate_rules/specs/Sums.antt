@@ -6,8 +6,8 @@ use Rattle.std.specs.List.{list_all}
 use Rattle.std.specs.Int.{int_div_euclid, int_rem_euclid}
 use Rattle.std.specs.Int.RustNames.{int_le}
 use Rattle.meaning_states.specs.State.{int_eq}
-use Rattle.core_terms.specs.Values.{number_at}
-use Rattle.case_tables.specs.declared.code_table.Code.{Code}
+use Rattle.obligations.specs.from_core_terms.Values.{number_at}
+use Rattle.obligations.specs.from_case_tables.declared.code_table.Code.{Code}
 use Rattle.obligations.specs.declared.branches.Fact.{Fact}
 use Rattle.obligations.specs.declared.branches.Line.{Line}
 use Rattle.obligations.specs.declared.branches.Variable.{Variable}

@@ -7,6 +7,7 @@ mod sums;
 
 pub use indexes::index_laws;
 pub use laws::certificate_laws;
+pub use obligations as from_obligations;
 pub use sums::{
     MultipleSum, add_multiple, add_pairs, added, all_divided, all_zero, below_0, closes, copy_fact,
     divides, parts, product, quotient, rounded,

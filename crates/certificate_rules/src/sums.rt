@@ -7,7 +7,7 @@ ghost use Rattle.std.specs.Prelude.{[], ◌∷◌, ◌++◌};
 ghost use Rattle.std.specs.Option.{option_copied};
 ghost use Rattle.std.specs.List.{list_all};
 ghost use Rattle.meaning_states.specs.State.{int_eq};
-ghost use Rattle.core_terms.specs.Values.{number_at};
+ghost use Rattle.obligations.specs.from_core_terms.Values.{number_at};
 ghost use Rattle.std.specs.Int.{int_rem_euclid, int_div_euclid};
 ghost use Rattle.certificate_rules.specs.Sums.{add_factors, add_times, numbered, add_pair, sum_pairs, is_false};
 ghost use Rattle.certificate_rules.specs.Sums.{is_divisible, divided, below_0};
@@ -15,10 +15,10 @@ ghost use Rattle.certificate_rules.specs.Additions.{fits_added, IsAdded};
 ghost use Rattle.obligations.specs.Load.{in_limit};
 ghost use Rattle.obligations.specs.LinearForms.{add_at, fact_of, sparse};
 
-use case_tables::Code;
+use obligations::from_case_tables::Code;
+use obligations::from_unity_base::Seq;
 use obligations::{Fact, Factors, Line, factor_at, small_product, small_sum};
 use std::alloc::{AllocError, Global};
-use unity_base::Seq;
 
 /// Adds a number at a place, where there is one.
 #[inline(always)]

@@ -1,3 +1,4 @@
+pub use Rattle.meaning_states.proofs as lemmas_from_meaning_states
 pub mod BoolLaws
 pub mod CapLaws
 pub mod ClosedLaws

@@ -1,3 +1,5 @@
+pub use Rattle.case_tables.specs as from_case_tables
+pub use Rattle.meaning_states.specs as from_meaning_states
 pub mod Values
 pub mod Sizes
 pub mod Weights

@@ -26,6 +26,7 @@ mod tables;
 mod trees;
 mod weights;
 
+pub use case_tables as from_case_tables;
 pub use closed::{number_of, quotient, remainder, scaled, truth_of};
 pub use copies::{copy_form, copy_term, held_form, held_term, owned_form, owned_term};
 pub use documents::{Arg, CDocument, CProof, CRule, CSchedule, CStep, Choice, Helper, PTerm, Ref};
@@ -50,4 +51,5 @@ pub use pool::Pool;
 pub use programs::{CProgram, CSlot, CStmt, CWrite, Print};
 pub use replacing::with_params;
 pub use trees::{CForm, CTerm, Range};
+pub use unity_base as from_unity_base;
 pub use weights::weight_of;

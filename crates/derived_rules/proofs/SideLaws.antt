@@ -9,7 +9,7 @@ use Rattle.core_terms.specs.declared.trees.CForm.{CForm, out-CForm, roll-CForm, 
 use Rattle.core_terms.specs.declared.trees.CForm.TheOpen.{CForm-F}
 use Rattle.core_terms.specs.declared.trees.CForm.TheVariants.{Bottom, Or, rolls-Bottom, rolls-Or}
 use Rattle.core_terms.specs.declared.trees.Range.{Range}
-use Rattle.rules_table.specs.Further.{first_side}
+use Rattle.safety_rules.specs.from_rules_table.Further.{first_side}
 use Rattle.safety_rules.specs.Usable.{IsUsable}
 use Rattle.safety_rules.proofs.UsableLaws.{usable, weight-Or}
 

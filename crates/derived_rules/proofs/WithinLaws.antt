@@ -6,10 +6,10 @@ use Rattle.case_tables.specs.declared.code_table.Code.{Code}
 use Rattle.core_terms.specs.declared.programs.CSlot.{CSlot}
 use Rattle.core_terms.specs.declared.trees.CForm.{CForm}
 use Rattle.fair_rounds.specs.declared.records.Record.{Record}
-use Rattle.obligations.specs.declared.branches.Obligation.{Obligation}
-use Rattle.rules_table.specs.Conclusion.{Conclusion}
-use Rattle.rules_table.specs.Further.{record_within, concluded_within, derived}
-use Rattle.rules_table.specs.Table.{Site, needs, record_of, concluded}
+use Rattle.safety_rules.specs.from_obligations.declared.branches.Obligation.{Obligation}
+use Rattle.safety_rules.specs.from_rules_table.Conclusion.{Conclusion}
+use Rattle.safety_rules.specs.from_rules_table.Further.{record_within, concluded_within, derived}
+use Rattle.safety_rules.specs.from_rules_table.Table.{Site, needs, record_of, concluded}
 use Rattle.safety_rules.proofs.AnswerLaws.{needs_met, needs_not, refused, given_by, rule_given}
 use Rattle.safety_rules.proofs.BoundLaws.{within_is}
 use Rattle.safety_rules.specs.Answers.{RuleAnswers}

@@ -3,8 +3,8 @@ ghost use Rattle.std.specs.Prelude.{◌≡◌, ◌≤◌, ◌^◌, ◌&&◌, ◌
 ghost use Rattle.core_terms.specs.Folding as fold;
 ghost use Rattle.core_terms.specs.Trees.{same_form};
 ghost use Rattle.core_terms.specs.Weights.{plain_weight};
-ghost use Rattle.rules_table.specs.Further as further;
-ghost use Rattle.rules_table.specs.Table as table;
+ghost use Rattle.safety_rules.specs.from_rules_table.Further as further;
+ghost use Rattle.safety_rules.specs.from_rules_table.Table as table;
 ghost use Rattle.safety_rules.specs.Answers.{site_of, IsPlace, IsPremiseAt, RuleAnswers};
 ghost use Rattle.safety_rules.specs.Sound.{StandsAt, StandsWhereShown};
 

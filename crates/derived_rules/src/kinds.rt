@@ -1,7 +1,7 @@
 // The kinds of two records.
 ghost use Rattle.std.specs.Prelude.{◌≡◌, ◌&&◌};
-ghost use Rattle.rules_table.specs.Further as further;
-ghost use Rattle.rules_table.specs.Table as table;
+ghost use Rattle.safety_rules.specs.from_rules_table.Further as further;
+ghost use Rattle.safety_rules.specs.from_rules_table.Table as table;
 
 use case_tables::Kind;
 use fair_rounds::Record;

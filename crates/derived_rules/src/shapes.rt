@@ -5,7 +5,7 @@ ghost use Rattle.core_terms.specs.Trees.{same_form};
 ghost use Rattle.core_terms.specs.Weights.{plain_weight};
 ghost use Rattle.core_terms.specs.declared.trees.CForm.{out-CForm};
 ghost use Rattle.core_terms.specs.declared.trees.CForm.TheVariants.{Bottom};
-ghost use Rattle.rules_table.specs.Further as further;
+ghost use Rattle.safety_rules.specs.from_rules_table.Further as further;
 
 use core_terms::{CForm, copy_form, not_form};
 use fair_rounds::Record;

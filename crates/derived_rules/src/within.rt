@@ -1,6 +1,6 @@
 // What is concluded within a bound.
 ghost use Rattle.std.specs.Prelude.{◌≡◌, ◌≤◌, ◌^◌, ◌++◌, nat_le, cond, None, Option, Some};
-ghost use Rattle.rules_table.specs.Further as further;
+ghost use Rattle.safety_rules.specs.from_rules_table.Further as further;
 ghost use Rattle.safety_rules.specs.Answers.{site_of, RuleAnswers};
 ghost use Rattle.safety_rules.specs.Usable.{NamesExist};
 

@@ -1,3 +1,4 @@
+pub use Rattle.event_checker.proofs as lemmas_from_event_checker
 pub mod BeginLaws
 pub mod CheckLaws
 pub mod FinishLaws

@@ -17,7 +17,7 @@ use Rattle.event_checker.specs.declared.checker.Checker.{Checker}
 use Rattle.event_checker.specs.Checkers.{CheckerIsReady, CheckerStandsFor, checker_obligation}
 use Rattle.event_checker.specs.Events.{nodes_from}
 use Rattle.fair_rounds.specs.declared.records.Record.{Record}
-use Rattle.rules_table.proofs.EachLaws.{each_at, from_all}
+use Rattle.proof_plans.proofs.lemmas_from_rules_table.EachLaws.{each_at, from_all}
 use Rattle.proof_plans.specs.declared.plans.Plan.{Plan}
 use Rattle.proof_plans.specs.declared.plans.StepFault.{StepFault}
 use Rattle.proof_plans.specs.Reaching.{reached}

@@ -16,15 +16,15 @@ use Rattle.core_terms.specs.Conditions.{IsCoreDocument, IsProgram, IsProof, IsSl
 use Rattle.obligations.specs.declared.branches.Obligation.{Obligation}
 use Rattle.obligations.specs.Obligations.{IsObligation}
 use Rattle.fair_rounds.specs.declared.records.Record.{Record}
-use Rattle.rules_table.specs.Conclusion.{Conclusion}
-use Rattle.rules_table.specs.Walk.{Around, has_defined, program_of, rule_of}
-use Rattle.rules_table.proofs.EachLaws.{Each, each_at, each_join, each_map}
-use Rattle.safety_rules.specs.declared.places.Derived.{Derived}
-use Rattle.safety_rules.specs.Answers.{derived_of}
-use Rattle.rules_steps.specs.Starts.{document_seen}
-use Rattle.rules_steps.specs.Using.{BookFits}
-use Rattle.rules_steps.proofs.GoalLaws.{told_step}
-use Rattle.rules_steps.proofs.ItemLaws.{to_all}
+use Rattle.proof_plans.specs.from_rules_table.Conclusion.{Conclusion}
+use Rattle.proof_plans.specs.from_rules_table.Walk.{Around, has_defined, program_of, rule_of}
+use Rattle.proof_plans.proofs.lemmas_from_rules_table.EachLaws.{Each, each_at, each_join, each_map}
+use Rattle.proof_plans.specs.from_safety_rules.declared.places.Derived.{Derived}
+use Rattle.proof_plans.specs.from_safety_rules.Answers.{derived_of}
+use Rattle.proof_plans.specs.from_rules_steps.Starts.{document_seen}
+use Rattle.proof_plans.specs.from_rules_steps.Using.{BookFits}
+use Rattle.proof_plans.proofs.lemmas_from_rules_steps.GoalLaws.{told_step}
+use Rattle.proof_plans.proofs.lemmas_from_rules_steps.ItemLaws.{to_all}
 use Rattle.proof_plans.specs.declared.plans.Plan.{Plan}
 use Rattle.proof_plans.specs.Reaching.{Reach, Stop, further, by_row, steps_reach, end_reach, proof_reach}
 use Rattle.proof_plans.specs.Reaching.{proofs_reach, reach_of, reached}

@@ -5,9 +5,9 @@ use Rattle.unity_parser.specs.Document.{IsDocument}
 use Rattle.names_rules.specs.WellNamed.{IsWellNamed}
 use Rattle.core_terms.specs.declared.documents.CDocument.{CDocument}
 use Rattle.core_terms.specs.Conditions.{IsCoreDocument}
-use Rattle.expand_documents.specs.Cores.{core_document}
-use Rattle.expand_documents.specs.Faults.{expansion_fault}
-use Rattle.expand_fits.proofs.Parsed.Reading.{read_cores}
+use Rattle.streamed_documents.specs.from_expand_documents.Cores.{core_document}
+use Rattle.streamed_documents.specs.from_expand_documents.Faults.{expansion_fault}
+use Rattle.streamed_documents.proofs.lemmas_from_expand_fits.Parsed.Reading.{read_cores}
 use Rattle.obligations.specs.declared.certificates.Cert.{Cert}
 use Rattle.certificate_reading.specs.Certificates.{certificates_of}
 use Rattle.certificate_reading.proofs.Whole.{are_whole_trees}

@@ -9,7 +9,7 @@ use Rattle.expand_documents.specs.Cores.{core_document}
 use Rattle.expand_documents.specs.Faults.{expansion_fault}
 use Rattle.rules_table.specs.Walk as walk
 use Rattle.rules_table.specs.Walk.{Failure, walk_of}
-use Rattle.rules_steps.specs.Starts.{starts_in}
+use Rattle.proof_plans.specs.from_rules_steps.Starts.{starts_in}
 use Rattle.proof_plans.specs.declared.plans.Plan.{Plan}
 use Rattle.proof_plans.specs.Planning.{IsPlanOf, IsFailureOf}
 use Rattle.examples_plans.specs.declared.no_plan.NoPlan.{NoPlan}

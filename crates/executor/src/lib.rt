@@ -6,6 +6,8 @@ mod runner;
 mod start;
 mod trying;
 
+pub use core_terms as from_core_terms;
+pub use core_terms::{from_case_tables, from_unity_base};
 pub use preparing::writes_outside;
 pub use runner::{Runner, StartError, Stepped};
 pub use start::start_of;

@@ -8,9 +8,9 @@ ghost use Rattle.core_terms.specs.Steps.{slot_ranges};
 ghost use Rattle.executor.specs.StartState as start;
 ghost use Rattle.executor.specs.Placing.{placed, lowest};
 
+use core_terms::from_unity_base::Seq;
 use core_terms::{CForm, CProgram, CSlot, CTerm, Print};
 use std::alloc::{AllocError, Global};
-use unity_base::Seq;
 
 /// The start state of a program: each slot has the number that the start section gives it; else the one
 /// that the first conjunct of the initially section fixes which is an equation of the slot and a number in

@@ -11,7 +11,7 @@ use lib.Signed.{◌≤ℤ◌}
 use Rattle.case_tables.specs.declared.code_table.Code.{Code}
 use Rattle.unity_syntax.specs.declared.name.End.{End}
 use Rattle.unity_syntax.specs.declared.name.Range.{Range}
-use Rattle.meaning_documents.specs.Value.{end_value, range_ends}
+use Rattle.expand_expressions.specs.from_meaning_documents.Value.{end_value, range_ends}
 use Rattle.core_terms.specs.Conditions.{IsRange}
 use Rattle.names_rules.specs.Reading.{earlier, unless, signed, end_limit, end_reading, upside_down, filled}
 use Rattle.names_rules.specs.Part.{Part, run}

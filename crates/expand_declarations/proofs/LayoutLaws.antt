@@ -16,10 +16,11 @@ use borrow.Author.Tests.{ltb-true}
 use Rattle.indexmap.specs.IndexMap.{insert_entry}
 use Rattle.unity_syntax.specs.declared.declaration.Var.{Var}
 use Rattle.unity_syntax.specs.declared.document.Part.{Part}
-use Rattle.meaning_documents.specs.Names.{Variable}
+use Rattle.expand_expressions.specs.from_meaning_documents.Names.{Variable}
 use Rattle.meaning_executions.specs.Counting.{range_size}
-use Rattle.meaning_documents.specs.Setting.{slots_for, slot_count, type_indices, variable_from, with_declaration}
-use Rattle.meaning_documents.specs.Setting.{with_declarations, declarations, programs_among}
+use Rattle.expand_expressions.specs.from_meaning_documents.Setting.{slots_for, slot_count, type_indices, variable_from}
+use Rattle.expand_expressions.specs.from_meaning_documents.Setting.{with_declaration}
+use Rattle.expand_expressions.specs.from_meaning_documents.Setting.{with_declarations, declarations, programs_among}
 use Rattle.names_rules.specs.Scope.{entries, seen_entries}
 use Rattle.names_rules.proofs.Lookups.{inserted}
 use Rattle.expand_declarations.proofs.TableLaws.{bytes_eq-sym, insert_absent}

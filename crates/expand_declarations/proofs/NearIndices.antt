@@ -9,7 +9,7 @@ use Rattle.unity_syntax.specs.declared.declaration.Var.{Var}
 use Rattle.unity_syntax.specs.declared.program.Program.{Program}
 use Rattle.unity_syntax.specs.declared.document.Part.{Part as DocumentPart}
 use Rattle.unity_syntax.specs.declared.document.Document.{Document}
-use Rattle.meaning_documents.specs.Setting.{type_indices, declarations}
+use Rattle.expand_expressions.specs.from_meaning_documents.Setting.{type_indices, declarations}
 use Rattle.case_tables.specs.declared.code_table.Code.{Code}
 use Rattle.names_rules.specs.Scope.{Table}
 use Rattle.names_rules.specs.Reading.{earlier, unless, filled}

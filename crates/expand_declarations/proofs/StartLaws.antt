@@ -9,7 +9,7 @@ use Rattle.std.proofs.lemmas.Int.{ints}
 use Rattle.std.proofs.lemmas.List.Sums.{fold-append}
 use lib.Signed.{◌≤ℤ◌}
 use Rattle.indexmap.specs.IndexMap.{insert_entry}
-use Rattle.meaning_documents.specs.Names.{Bindings, number_of, or_zero, slot_at, slot_named}
+use Rattle.expand_expressions.specs.from_meaning_documents.Names.{Bindings, number_of, or_zero, slot_at, slot_named}
 use Rattle.meaning_executions.specs.Counting.{natural}
 use Rattle.meaning_executions.specs.Counting.{range_size}
 use Rattle.expand_expressions.specs.declared.places.VariableSlots.{VariableSlots}

@@ -17,7 +17,7 @@ use Rattle.unity_syntax.specs.declared.proof.Param.{Param}
 use Rattle.unity_syntax.specs.declared.proof.Rule.{Rule}
 use Rattle.unity_syntax.specs.declared.proof.Step.{Step}
 use Rattle.unity_syntax.specs.declared.document.Schedule.{Schedule}
-use Rattle.meaning_documents.specs.Value.{end_value, range_ends, signed, with_offset}
+use Rattle.expand_expressions.specs.from_meaning_documents.Value.{end_value, range_ends, signed, with_offset}
 use Rattle.core_terms.specs.declared.trees.Range.{Range}
 use Rattle.core_terms.specs.declared.documents.Arg.{Arg}
 use Rattle.core_terms.specs.declared.documents.Ref.{Ref}

@@ -9,12 +9,14 @@ use Rattle.unity_syntax.specs.declared.name.Range.{Range as TextRange}
 use Rattle.unity_syntax.specs.declared.declaration.Plain.{Plain}
 use Rattle.unity_syntax.specs.declared.declaration.Var.{Var}
 use Rattle.unity_syntax.specs.declared.document.Part.{Part}
-use Rattle.meaning_documents.specs.Names.{Variable}
-use Rattle.meaning_documents.specs.Value.{range_ends}
+use Rattle.expand_expressions.specs.from_meaning_documents.Names.{Variable}
+use Rattle.expand_expressions.specs.from_meaning_documents.Value.{range_ends}
 use Rattle.meaning_executions.specs.Counting.{count_up}
 use Rattle.meaning_executions.specs.Counting.{range_size}
-use Rattle.meaning_documents.specs.Setting.{element_type, type_indices, plain_range, slot_count, with_declaration}
-use Rattle.meaning_documents.specs.Setting.{with_declarations, declarations, setting_of, programs_among}
+use Rattle.expand_expressions.specs.from_meaning_documents.Setting.{element_type, type_indices, plain_range, slot_count}
+use Rattle.expand_expressions.specs.from_meaning_documents.Setting.{with_declaration}
+use Rattle.expand_expressions.specs.from_meaning_documents.Setting.{with_declarations, declarations, setting_of}
+use Rattle.expand_expressions.specs.from_meaning_documents.Setting.{programs_among}
 use Rattle.core_terms.specs.declared.programs.Print.{Print}
 use Rattle.core_terms.specs.declared.programs.CSlot.{CSlot}
 use Rattle.names_rules.specs.Scope.{entries}

@@ -8,9 +8,9 @@ use Rattle.unity_syntax.specs.declared.declaration.Var.{Var}
 use Rattle.unity_syntax.specs.declared.declaration.Init.{Init}
 use Rattle.unity_syntax.specs.declared.declaration.InitValue.{InitValue}
 use Rattle.unity_syntax.specs.declared.document.Part.{Part}
-use Rattle.meaning_documents.specs.Names.{Bindings, Variable, number_of, or_zero, slot_named}
-use Rattle.meaning_documents.specs.Value.{signed}
-use Rattle.meaning_documents.specs.Setting.{element_type, plain_words}
+use Rattle.expand_expressions.specs.from_meaning_documents.Names.{Bindings, Variable, number_of, or_zero, slot_named}
+use Rattle.expand_expressions.specs.from_meaning_documents.Value.{signed}
+use Rattle.expand_expressions.specs.from_meaning_documents.Setting.{element_type, plain_words}
 use Rattle.expand_declarations.specs.Slots.{part_declarations}
 
 abbrev pub index_of : Option (Bool × ℕ) → Option ℤ

@@ -20,7 +20,7 @@ use Rattle.unity_syntax.specs.declared.proof.Proof.{Proof}
 use Rattle.unity_syntax.specs.declared.document.Part.{Part}
 use Rattle.unity_syntax.specs.declared.document.Schedule.{Schedule}
 use Rattle.unity_syntax.specs.declared.document.Document.{Document}
-use Rattle.meaning_documents.specs.Setting.{element_type}
+use Rattle.expand_expressions.specs.from_meaning_documents.Setting.{element_type}
 use Rattle.names_rules.specs.Declarations.{items_of, some_of}
 
 -- texts of words, in order

@@ -2,8 +2,9 @@
 ghost use Rattle.std.specs.Prelude.{◌≡◌, ◌+◌, ◌-◌, [], ◌∷◌, ◌++◌, pos, ◌+ℤ◌, ◌<◌, false, map, Some, None};
 ghost use Rattle.std.specs.Prelude.{IfOk, OnOk, option_map};
 ghost use Rattle.meaning_executions.specs.Counting.{range_size};
-ghost use Rattle.meaning_documents.specs.Setting.{is_boolean, element_type, plain_range, slots_for};
-ghost use Rattle.meaning_documents.specs.Setting.{type_indices};
+ghost use Rattle.expand_expressions.specs.from_meaning_documents.Setting.{is_boolean, element_type, plain_range};
+ghost use Rattle.expand_expressions.specs.from_meaning_documents.Setting.{slots_for};
+ghost use Rattle.expand_expressions.specs.from_meaning_documents.Setting.{type_indices};
 ghost use Rattle.expand_declarations.specs.WordNumbers.{word_number};
 ghost use Rattle.expand_declarations.specs.Numbers.{core_range};
 ghost use Rattle.expand_expressions.specs.Places.{ends_of};

@@ -4,7 +4,7 @@ ghost use Rattle.std.specs.Prelude.{◌≡◌, pos, is_some, IfOk, OnOk};
 ghost use Rattle.std.specs.List.{flat_map};
 ghost use Rattle.std.specs.Map.{lookup};
 ghost use Rattle.std.specs.Str.{bytes_eq};
-ghost use Rattle.meaning_documents.specs.Setting.{declarations, plain_words, with_places};
+ghost use Rattle.expand_expressions.specs.from_meaning_documents.Setting.{declarations, plain_words, with_places};
 ghost use Rattle.names_rules.specs.Scope.{entries};
 ghost use Rattle.names_rules.specs.Declarations.{items_of};
 ghost use Rattle.expand_declarations.specs.Start as spec;

@@ -1,8 +1,8 @@
 //! The slots of variables, in the order of declaration.
 ghost use Rattle.std.specs.Prelude.{◌≡◌, ◌+◌, ◌-◌, ◌≤◌, [], ◌∷◌, ◌++◌, false, Some, None};
 ghost use Rattle.std.specs.Prelude.{IfOk, OnOk, length, option_map};
-ghost use Rattle.meaning_documents.specs.Setting.{declarations, slots_for};
-ghost use Rattle.meaning_documents.specs.Setting.{type_indices, variable_from};
+ghost use Rattle.expand_expressions.specs.from_meaning_documents.Setting.{declarations, slots_for};
+ghost use Rattle.expand_expressions.specs.from_meaning_documents.Setting.{type_indices, variable_from};
 ghost use Rattle.names_rules.specs.Scope.{entries};
 ghost use Rattle.names_rules.specs.Declarations.{items_of};
 ghost use Rattle.expand_expressions.specs.Places.{ends_of, variable_of, variables_of};

@@ -1,7 +1,7 @@
 //! Numbers and ranges.
 
 ghost use Rattle.std.specs.Prelude.{◌≡◌, [], pos, IfOk};
-ghost use Rattle.meaning_documents.specs.Value.{end_value, range_ends, signed, with_offset};
+ghost use Rattle.expand_expressions.specs.from_meaning_documents.Value.{end_value, range_ends, signed, with_offset};
 ghost use Rattle.expand_declarations.specs.Numbers.{GivesLiteral, core_range};
 
 use case_tables::Symbol;

@@ -2,7 +2,7 @@
 
 ghost use Rattle.std.specs.Prelude.{◌≡◌, ◌∷◌, ◌++◌, map, Option, IfOk, OnOk};
 ghost use Rattle.std.specs.Option.{option_and_then};
-ghost use Rattle.meaning_documents.specs.Steps as steps;
+ghost use Rattle.expand_expressions.specs.from_meaning_documents.Steps as steps;
 ghost use Rattle.names_rules.specs.Scope.{bounds, entries};
 ghost use Rattle.names_rules.specs.Declarations.{some_of};
 ghost use Rattle.names_rules.specs.WellNamed.{param_number};

@@ -1,7 +1,7 @@
 //! Schedules.
 
 ghost use Rattle.std.specs.Prelude.{◌≡◌, [], ◌++◌, map, IfOk, OnOk};
-ghost use Rattle.meaning_documents.specs.Value.{end_value};
+ghost use Rattle.expand_expressions.specs.from_meaning_documents.Value.{end_value};
 ghost use Rattle.names_rules.specs.Declarations.{some_of};
 ghost use Rattle.expand_declarations.specs.References as spec;
 

@@ -5,7 +5,7 @@ ghost use Rattle.std.specs.Prelude.{IfOk, OnOk};
 ghost use Rattle.std.specs.Map.{lookup};
 ghost use Rattle.std.specs.Str.{bytes_eq};
 ghost use Rattle.meaning_executions.specs.Counting.{natural};
-ghost use Rattle.meaning_documents.specs.Names.{number_of, or_zero, slot_at, slot_named};
+ghost use Rattle.expand_expressions.specs.from_meaning_documents.Names.{number_of, or_zero, slot_at, slot_named};
 ghost use Rattle.meaning_executions.specs.Counting.{range_size};
 ghost use Rattle.names_rules.specs.Scope.{entries};
 ghost use Rattle.names_rules.specs.Declarations.{some_of};

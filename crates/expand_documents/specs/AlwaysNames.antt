@@ -4,7 +4,7 @@ use Rattle.std.specs.Map.{lookup}
 use Rattle.std.specs.Str.{bytes_eq}
 use Rattle.indexmap.specs.IndexMap.{insert_entry}
 use Rattle.unity_syntax.specs.declared.declaration.Def.{Def}
-use Rattle.meaning_documents.specs.Names.{Bindings}
+use Rattle.expand_rules.specs.from_meaning_documents.Names.{Bindings}
 use Rattle.names_rules.specs.declared.named.NameFault.{NameFault}
 use Rattle.names_rules.specs.Reading.{Fault, earlier}
 use Rattle.names_rules.specs.Answers.{Stops}

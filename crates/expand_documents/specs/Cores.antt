@@ -5,19 +5,19 @@ use Rattle.unity_syntax.specs.declared.declaration.Def.{Def}
 use Rattle.unity_syntax.specs.declared.program.Program.{Program}
 use Rattle.unity_syntax.specs.declared.document.Part.{Part}
 use Rattle.unity_syntax.specs.declared.document.Document.{Document}
-use Rattle.meaning_documents.specs.Setting.{items_of, definitions, programs_among, setting_of}
+use Rattle.expand_rules.specs.from_meaning_documents.Setting.{items_of, definitions, programs_among, setting_of}
 use Rattle.names_rules.specs.Declarations.{some_of}
 use Rattle.core_terms.specs.declared.programs.CSlot.{CSlot}
 use Rattle.core_terms.specs.declared.programs.CProgram.{CProgram}
 use Rattle.core_terms.specs.declared.documents.CProof.{CProof}
 use Rattle.core_terms.specs.declared.documents.CDocument.{CDocument}
 use Rattle.core_terms.specs.Unions.{joined_programs}
-use Rattle.expand_declarations.specs.Texts.{Texts}
-use Rattle.expand_declarations.specs.WordNumbers.{document_words, word_number}
-use Rattle.expand_declarations.specs.Slots.{document_slots}
-use Rattle.expand_declarations.specs.Shown.{shown_slots}
-use Rattle.expand_declarations.specs.Start.{start_values, enumeration_words, first_words}
-use Rattle.expand_declarations.specs.References.{core_schedule}
+use Rattle.expand_steps.specs.from_expand_declarations.Texts.{Texts}
+use Rattle.expand_steps.specs.from_expand_declarations.WordNumbers.{document_words, word_number}
+use Rattle.expand_steps.specs.from_expand_declarations.Slots.{document_slots}
+use Rattle.expand_steps.specs.from_expand_declarations.Shown.{shown_slots}
+use Rattle.expand_steps.specs.from_expand_declarations.Start.{start_values, enumeration_words, first_words}
+use Rattle.expand_steps.specs.from_expand_declarations.References.{core_schedule}
 use Rattle.expand_rules.specs.Forming.{Scope}
 use Rattle.expand_rules.specs.Programs.{plain_core}
 use Rattle.expand_steps.specs.Steps.{core_proof}

@@ -6,13 +6,13 @@ use Rattle.unity_syntax.specs.declared.program.Initially.{Initially}
 use Rattle.unity_syntax.specs.declared.program.Program.{Program}
 use Rattle.unity_syntax.specs.declared.document.Part.{Part}
 use Rattle.unity_syntax.specs.declared.document.Document.{Document}
-use Rattle.meaning_documents.specs.Setting.{definitions}
+use Rattle.expand_rules.specs.from_meaning_documents.Setting.{definitions}
 use Rattle.names_rules.specs.Reading.{Fault, earlier}
 use Rattle.core_terms.specs.declared.programs.CSlot.{CSlot}
 use Rattle.core_terms.specs.declared.programs.CProgram.{CProgram}
-use Rattle.expand_declarations.specs.Texts.{Texts}
-use Rattle.expand_declarations.specs.WordNumbers.{document_words, word_number}
-use Rattle.expand_declarations.specs.Slots.{document_slots, past_part}
+use Rattle.expand_steps.specs.from_expand_declarations.Texts.{Texts}
+use Rattle.expand_steps.specs.from_expand_declarations.WordNumbers.{document_words, word_number}
+use Rattle.expand_steps.specs.from_expand_declarations.Slots.{document_slots, past_part}
 use Rattle.expand_rules.specs.Forming.{Scope, formed, as_truth}
 use Rattle.expand_rules.specs.Lists.{items_fault}
 use Rattle.expand_statements.specs.Counts.{too_many, statements_fault}

@@ -13,10 +13,10 @@ use Rattle.core_terms.specs.Weights.{one_weight, plain_weights, plain_weight}
 use Rattle.core_terms.proofs.WeightLaws.{own_within, weights-Const}
 use Rattle.core_terms.specs.declared.trees.CTerm.TheVariants.{Const, Slot, rolls-Slot}
 use Rattle.core_terms.specs.Folding.{number_of, choice_term, zero_form, difference_term}
-use Rattle.meaning_documents.specs.Names.{slot_at}
+use Rattle.expand_rules.specs.from_meaning_documents.Names.{slot_at}
 use Rattle.meaning_executions.specs.Counting.{natural}
 use Rattle.meaning_executions.specs.Counting.{range_size}
-use Rattle.meaning_documents.specs.Names.{variable_named}
+use Rattle.expand_rules.specs.from_meaning_documents.Names.{variable_named}
 use Rattle.expand_rules.specs.declared.cores.Formed.{Formed}
 use Rattle.std.specs.Prelude.{MatchOption}
 use Rattle.names_rules.specs.Scope.{entries}

@@ -3,7 +3,7 @@ use Rattle.std.proofs.Common.{◌≡◌, ℕ, ℤ, pos, negsuc, ◌≤ℤ◌, �
 use Rattle.std.proofs.Common.{cond, Some, refl}
 use Rattle.std.specs.Map.{lookup}
 use Rattle.std.specs.Str.{bytes_eq}
-use Rattle.meaning_documents.specs.Names.{number_of, or_zero}
+use Rattle.expand_rules.specs.from_meaning_documents.Names.{number_of, or_zero}
 use Rattle.meaning_executions.specs.Counting.{natural}
 use Rattle.std.specs.Int.RustNames.{unsigned_abs}
 use Rattle.std.proofs.lemmas.Int.{ints}

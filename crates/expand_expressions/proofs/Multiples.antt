@@ -6,7 +6,7 @@ use Rattle.core_terms.specs.declared.trees.CTerm.{CTerm}
 use Rattle.core_terms.specs.Weights.{plain_weights, multiple_weights}
 use Rattle.core_terms.specs.Folding.{number_of}
 use Rattle.core_terms.proofs.KnownLaws.{number_within}
-use Rattle.meaning_documents.specs.Names.{or_zero}
+use Rattle.expand_rules.specs.from_meaning_documents.Names.{or_zero}
 use Rattle.std.specs.Prelude.{MatchOption}
 
 pub multiple_lighter : (k : ℤ) (t : CTerm) (own : ℕ) → (plain_weights t).own ≤ own →

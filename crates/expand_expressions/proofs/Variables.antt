@@ -5,8 +5,8 @@ use Rattle.std.specs.Map.{lookup}
 use Rattle.std.specs.Str.{bytes_eq}
 use Rattle.core_terms.specs.declared.trees.CTerm.TheVariants.{Slot}
 use Rattle.core_terms.specs.declared.trees.Range.{Range}
-use Rattle.meaning_documents.specs.Names.{slot_at}
-use Rattle.meaning_documents.specs.Names.{variable_named}
+use Rattle.expand_rules.specs.from_meaning_documents.Names.{slot_at}
+use Rattle.expand_rules.specs.from_meaning_documents.Names.{variable_named}
 use Rattle.expand_rules.specs.Measures.{ends_weight}
 use Rattle.expand_rules.specs.Forming.{varying, typed, variable_formed}
 use Rattle.expand_expressions.specs.declared.places.VariableSlots.{VariableSlots}

@@ -4,8 +4,8 @@ use Rattle.std.specs.Int.RustNames.{unsigned_abs}
 use Rattle.std.specs.Map.{lookup}
 use Rattle.std.specs.Str.{bytes_eq}
 use Rattle.core_terms.specs.declared.trees.Range.{Range}
-use Rattle.meaning_documents.specs.Names.{Variable}
-use Rattle.meaning_documents.specs.Setting.{slots_for}
+use Rattle.expand_rules.specs.from_meaning_documents.Names.{Variable}
+use Rattle.expand_rules.specs.from_meaning_documents.Setting.{slots_for}
 use Rattle.names_rules.specs.Scope.{entries}
 use Rattle.expand_rules.specs.declared.cores.Bound.{Bound}
 use Rattle.expand_rules.specs.declared.cores.Formed.{Formed}
@@ -14,7 +14,7 @@ use Rattle.expand_rules.specs.Forming.{formed_or_zero, no_element, element_by}
 use Rattle.expand_rules.specs.Measures.{ends_weight}
 use Rattle.core_terms.specs.declared.trees.CTerm.TheVariants.{Slot}
 use Rattle.std.specs.Option.{option_or}
-use Rattle.meaning_documents.specs.Names.{variable_named}
+use Rattle.expand_rules.specs.from_meaning_documents.Names.{variable_named}
 use Rattle.expand_expressions.specs.declared.places.VariableSlots.{VariableSlots}
 use Rattle.expand_expressions.specs.declared.places.Known.{Known}
 use Rattle.expand_expressions.specs.declared.places.Env.{Env, fold-Env}

@@ -4,7 +4,7 @@ ghost use Rattle.std.specs.Prelude.{◌≡◌, ◌+◌, ◌*◌, ◌^◌, ◌<�
 ghost use Rattle.std.specs.Int.RustNames.{unsigned_abs};
 ghost use Rattle.core_terms.specs.Folding.{number_of, scaled_term};
 ghost use Rattle.core_terms.specs.Weights.{plain_weights};
-ghost use Rattle.meaning_documents.specs.Names.{or_zero};
+ghost use Rattle.expand_rules.specs.from_meaning_documents.Names.{or_zero};
 ghost use Rattle.expand_rules.specs.Measures as measures;
 ghost use Rattle.expand_rules.specs.Forming as spec;
 ghost use Rattle.expand_rules.specs.Limits as limits;

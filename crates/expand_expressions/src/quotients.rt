@@ -4,7 +4,7 @@ ghost use Rattle.std.specs.Prelude.{◌≡◌, ◌^◌, ◌≤◌, ◌+◌, ◌|
 ghost use Rattle.std.specs.Option.{is_some};
 ghost use Rattle.std.specs.Int.RustNames.{int_le, unsigned_abs};
 ghost use Rattle.core_terms.specs.Folding.{quotient_term, remainder_term};
-ghost use Rattle.meaning_documents.specs.Names.{or_zero};
+ghost use Rattle.expand_rules.specs.from_meaning_documents.Names.{or_zero};
 ghost use Rattle.expand_rules.specs.Forming as spec;
 ghost use Rattle.expand_expressions.specs.Sound.{IsSound, of_number};
 

@@ -4,8 +4,8 @@ ghost use Rattle.std.specs.Prelude.{◌≡◌, ◌+◌, ◌^◌, ◌≤◌, ◌<
 ghost use Rattle.std.specs.Int.RustNames.{unsigned_abs};
 ghost use Rattle.case_tables.specs.declared.symbol_table.Symbol.{Symbol};
 ghost use Rattle.meaning_executions.specs.Counting.{range_size, count_up};
-ghost use Rattle.meaning_documents.specs.Names as names;
-ghost use Rattle.meaning_documents.specs.Value as value;
+ghost use Rattle.expand_rules.specs.from_meaning_documents.Names as names;
+ghost use Rattle.expand_rules.specs.from_meaning_documents.Value as value;
 ghost use Rattle.expand_rules.specs.Measures as spec;
 ghost use Rattle.expand_rules.specs.Forming as forming;
 ghost use Rattle.expand_expressions.specs.Places.{bound_names, bound_number};

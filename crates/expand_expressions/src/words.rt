@@ -6,7 +6,7 @@ ghost use Rattle.std.specs.Int.RustNames.{unsigned_abs};
 ghost use Rattle.std.specs.Map.{lookup};
 ghost use Rattle.std.specs.Str.{bytes_eq};
 ghost use Rattle.core_terms.specs.declared.trees.CTerm.TheVariants.{Slot, Param};
-ghost use Rattle.meaning_documents.specs.Names.{slot_at};
+ghost use Rattle.expand_rules.specs.from_meaning_documents.Names.{slot_at};
 ghost use Rattle.names_rules.specs.Scope.{entries};
 ghost use Rattle.expand_rules.specs.Measures as measures;
 ghost use Rattle.expand_rules.specs.Forming as spec;

@@ -10,11 +10,11 @@ use Rattle.core_terms.specs.Conditions.{is_below, RuleWellScoped, rule_ranges}
 use Rattle.expand_declarations.specs.Texts.{Texts}
 use Rattle.expand_declarations.specs.WordNumbers.{document_words}
 use Rattle.expand_rules.specs.Forming.{Scope}
-use Rattle.expand_steps.specs.Steps.{core_step}
-use Rattle.expand_statements.proofs.FaultlessLaws.{faultless_instances}
+use Rattle.expand_fits_parts.specs.from_expand_steps.Steps.{core_step}
+use Rattle.expand_fits_parts.proofs.lemmas_from_expand_statements.FaultlessLaws.{faultless_instances}
 use Rattle.meaning_documents.specs.Steps.{proofs_among}
-use Rattle.expand_correct.proofs.Declared.Slots.{slots_are_sound, slots_have_words}
-use Rattle.expand_documents.specs.Cores.{core_document, document_scope, core_proofs}
+use Rattle.expand_fits_parts.proofs.lemmas_from_expand_correct.Declared.Slots.{slots_are_sound, slots_have_words}
+use Rattle.expand_fits_parts.specs.from_expand_documents.Cores.{core_document, document_scope, core_proofs}
 use Rattle.expand_fits_parts.specs.Forms.StepLaws as step
 use Rattle.expand_fits_parts.proofs.Forms.Bodies.{programs_fit}
 use Rattle.expand_fits_parts.proofs.Forms.ShownPrograms.{programs_show}

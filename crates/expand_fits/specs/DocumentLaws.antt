@@ -4,9 +4,9 @@ use Rattle.unity_syntax.specs.declared.document.Document.{Document}
 use Rattle.core_terms.specs.Conditions.{IsCoreDocument}
 use Rattle.names_rules.specs.WellNamed.{IsWellNamed}
 use Rattle.meaning_documents.specs.Steps.{proofs_among}
-use Rattle.expand_correct.specs.Declared.SlotLaws.{HasFewWords}
-use Rattle.expand_documents.specs.Cores.{core_document}
-use Rattle.expand_documents.specs.Faults.{expansion_fault}
+use Rattle.expand_fits_parts.specs.from_expand_correct.Declared.SlotLaws.{HasFewWords}
+use Rattle.expand_fits_parts.specs.from_expand_documents.Cores.{core_document}
+use Rattle.expand_fits_parts.specs.from_expand_documents.Faults.{expansion_fault}
 use Rattle.expand_fits_parts.specs.Forms.ShowingLaws.{HasApartNames}
 use Rattle.expand_fits_parts.specs.Conditions.ArgumentConditions.{HasLiterals}
 use Rattle.expand_fits.specs.StartConditions.{HasApartWords}

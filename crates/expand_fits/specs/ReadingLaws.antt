@@ -3,8 +3,8 @@ use Rattle.std.specs.Prelude.{◌≡◌, ℕ, ◌≤◌, ◌^◌, List, length, 
 use Rattle.unity_syntax.specs.declared.document.Document.{Document}
 use Rattle.core_terms.specs.Conditions.{IsCoreDocument}
 use Rattle.names_rules.specs.WellNamed.{IsWellNamed}
-use Rattle.expand_documents.specs.Cores.{core_document}
-use Rattle.expand_documents.specs.Faults.{expansion_fault}
+use Rattle.expand_fits_parts.specs.from_expand_documents.Cores.{core_document}
+use Rattle.expand_fits_parts.specs.from_expand_documents.Faults.{expansion_fault}
 use Rattle.expand_fits.specs.DocumentLaws.{IsWellFormedForCore}
 use Rattle.unity_parser.specs.Document.{IsDocument}
 

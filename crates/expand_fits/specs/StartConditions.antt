@@ -8,7 +8,7 @@ use Rattle.meaning_documents.specs.Setting.{element_type}
 use Rattle.core_terms.specs.Conditions.{EachPair, StartFits, is_shown}
 use Rattle.names_rules.specs.WellNamed.{IsWellNamed}
 use Rattle.expand_declarations.specs.Slots.{declared_by}
-use Rattle.expand_documents.specs.Cores.{core_document}
+use Rattle.expand_fits_parts.specs.from_expand_documents.Cores.{core_document}
 use Rattle.expand_fits_parts.specs.Forms.ShowingLaws.{HasApartNames}
 
 -- an enumeration: the byte of its first word, and the number of its last one

@@ -5,12 +5,12 @@ use Rattle.std.proofs.lemmas.Int.{ints}
 use borrow.Author.Differences.{le-true, le-false, at_most_in, below_in}
 use Rattle.std.specs.Int.RustNames.{int_le}
 use Rattle.meaning_documents.specs.Names.{or_zero, slot_at, slot_number}
-use Rattle.meaning_executions.specs.Counting.{natural}
-use Rattle.meaning_executions.specs.Counting.{range_size}
+use Rattle.meaning_documents.specs.from_meaning_executions.Counting.{natural}
+use Rattle.meaning_documents.specs.from_meaning_executions.Counting.{range_size}
 use Rattle.core_terms.specs.declared.trees.CTerm.{CTerm}
 use Rattle.core_terms.specs.declared.trees.CTerm.TheVariants.{Const, Slot}
 use Rattle.core_terms.specs.Values.{number_at, term_value}
-use Rattle.meaning_states.specs.State.{int_eq}
+use Rattle.core_terms.specs.from_meaning_states.State.{int_eq}
 use Rattle.core_terms.specs.Folding.{difference_term, zero_form}
 use Rattle.core_terms.proofs.PartLaws.{value-Const, value-Slot}
 use Rattle.core_terms.proofs.IntTests.{zero_tests, le_yes, le_no}

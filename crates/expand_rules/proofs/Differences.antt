@@ -5,7 +5,7 @@ use Rattle.std.proofs.lemmas.Int.{ints}
 use borrow.Author.Differences.{le-true, le-false}
 use Rattle.std.specs.Int.RustNames.{int_le}
 use Rattle.std.specs.Option.{is_some}
-use Rattle.meaning_states.specs.Division.{divisor}
+use Rattle.core_terms.specs.from_meaning_states.Division.{divisor}
 use Rattle.core_terms.proofs.IntTests.{le_yes, le_no}
 use Rattle.expand_rules.specs.declared.cores.Formed.{Formed}
 use Rattle.expand_rules.specs.Forming.{factor_of, divisor_of}

@@ -1,19 +1,22 @@
 -- What each kind of expression becomes, one equation for each.
 use Rattle.std.proofs.Common.{◌≡◌, ℕ, pos, List, [], ◌∷◌, map, Bool, Option, Some, None, refl, sym, ap, ◌∙◌}
 use Rattle.std.specs.Prelude.{fold}
-use Rattle.case_tables.specs.declared.symbol_table.Symbol.{Symbol}
-use Rattle.case_tables.specs.declared.word_table.Word.{Word}
-use Rattle.unity_syntax.specs.declared.name.Name.{Name}
-use Rattle.unity_syntax.specs.declared.name.Range.{Range}
-use Rattle.unity_syntax.specs.declared.expression.Expr
-use Rattle.unity_syntax.specs.declared.expression.Expr.{Expr, roll-Expr, fold-roll-Expr}
-use Rattle.unity_syntax.specs.declared.expression.Expr.TheFolds.{map-Expr}
-use Rattle.unity_syntax.specs.declared.expression.Expr.TheOpen.{Expr-F}
-use Rattle.unity_syntax.specs.declared.expression.Operator.{Operator}
-use Rattle.unity_syntax.specs.declared.expression.Expr.TheVariants.{rolls-Implies, rolls-And, rolls-Or, rolls-Not}
-use Rattle.unity_syntax.specs.declared.expression.Expr.TheVariants.{rolls-Compare, rolls-Sum, rolls-Product}
-use Rattle.unity_syntax.specs.declared.expression.Expr.TheVariants.{rolls-Number, rolls-True, rolls-False, rolls-Word}
-use Rattle.unity_syntax.specs.declared.expression.Expr.TheVariants.{rolls-Brackets, rolls-Quantified}
+use Rattle.core_terms.specs.from_case_tables.declared.symbol_table.Symbol.{Symbol}
+use Rattle.core_terms.specs.from_case_tables.declared.word_table.Word.{Word}
+use Rattle.names_rules.specs.from_unity_syntax.declared.name.Name.{Name}
+use Rattle.names_rules.specs.from_unity_syntax.declared.name.Range.{Range}
+use Rattle.names_rules.specs.from_unity_syntax.declared.expression.Expr
+use Rattle.names_rules.specs.from_unity_syntax.declared.expression.Expr.{Expr, roll-Expr, fold-roll-Expr}
+use Rattle.names_rules.specs.from_unity_syntax.declared.expression.Expr.TheFolds.{map-Expr}
+use Rattle.names_rules.specs.from_unity_syntax.declared.expression.Expr.TheOpen.{Expr-F}
+use Rattle.names_rules.specs.from_unity_syntax.declared.expression.Operator.{Operator}
+use Rattle.names_rules.specs.from_unity_syntax.declared.expression.Expr.TheVariants.{rolls-Implies, rolls-And, rolls-Or}
+use Rattle.names_rules.specs.from_unity_syntax.declared.expression.Expr.TheVariants.{rolls-Not}
+use Rattle.names_rules.specs.from_unity_syntax.declared.expression.Expr.TheVariants.{rolls-Compare, rolls-Sum}
+use Rattle.names_rules.specs.from_unity_syntax.declared.expression.Expr.TheVariants.{rolls-Product}
+use Rattle.names_rules.specs.from_unity_syntax.declared.expression.Expr.TheVariants.{rolls-Number, rolls-True}
+use Rattle.names_rules.specs.from_unity_syntax.declared.expression.Expr.TheVariants.{rolls-False, rolls-Word}
+use Rattle.names_rules.specs.from_unity_syntax.declared.expression.Expr.TheVariants.{rolls-Brackets, rolls-Quantified}
 use Rattle.meaning_documents.specs.Names.{variable_named}
 use Rattle.core_terms.specs.declared.trees.CForm.TheVariants.{Top, Bottom}
 use Rattle.expand_rules.specs.Counts.{no_count, both_counts, one_node_more}

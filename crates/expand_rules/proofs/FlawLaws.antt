@@ -1,6 +1,6 @@
 -- What fails in several parts.
 use Rattle.std.proofs.Common.{◌≡◌, ℕ, min, Option, Some, None, refl, ap, ◌∙◌, arith, true, false, cond, nat_le}
-use Rattle.case_tables.specs.declared.code_table.Code.{Code}
+use Rattle.core_terms.specs.from_case_tables.declared.code_table.Code.{Code}
 use Rattle.names_rules.specs.Reading.{Fault}
 use Rattle.expand_rules.specs.declared.cores.Flaws.{Flaws}
 use Rattle.expand_rules.specs.Measures.{nearer, no_flaws, both_flaws}

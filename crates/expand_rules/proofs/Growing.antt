@@ -5,11 +5,11 @@ use Rattle.std.proofs.lemmas.Bool.{leb-false, lt-leb}
 use Rattle.std.proofs.Math.Nat.{mul-le-mul_right}
 use Rattle.std.specs.Prelude.{fold}
 use Rattle.std.specs.Int.RustNames.{unsigned_abs}
-use Rattle.case_tables.specs.declared.symbol_table.Symbol.{Symbol}
-use Rattle.unity_syntax.specs.declared.expression.Operator.{Operator}
-use Rattle.unity_syntax.specs.declared.name.Range.{Range}
+use Rattle.core_terms.specs.from_case_tables.declared.symbol_table.Symbol.{Symbol}
+use Rattle.names_rules.specs.from_unity_syntax.declared.expression.Operator.{Operator}
+use Rattle.names_rules.specs.from_unity_syntax.declared.name.Range.{Range}
 use Rattle.meaning_documents.specs.Names.{Variable}
-use Rattle.meaning_executions.specs.Counting.{range_size}
+use Rattle.meaning_documents.specs.from_meaning_executions.Counting.{range_size}
 use Rattle.expand_rules.specs.declared.cores.Core.{Core}
 use Rattle.expand_rules.specs.declared.cores.Bound.{Bound}
 use Rattle.core_terms.specs.declared.trees.CTerm.{CTerm}

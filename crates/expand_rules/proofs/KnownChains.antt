@@ -5,10 +5,10 @@ use Rattle.std.proofs.lemmas.Int.{ints}
 use borrow.Author.Differences.{le-true, le-false, at_most_in, below_in}
 use Rattle.std.specs.Option.{option_map}
 use Rattle.std.specs.Int.RustNames.{int_le}
-use Rattle.meaning_states.specs.State.{int_eq}
-use Rattle.meaning_executions.specs.Counting.{natural}
+use Rattle.core_terms.specs.from_meaning_states.State.{int_eq}
+use Rattle.meaning_documents.specs.from_meaning_executions.Counting.{natural}
 use Rattle.meaning_documents.specs.Names.{slot_at}
-use Rattle.meaning_executions.specs.Counting.{range_size}
+use Rattle.meaning_documents.specs.from_meaning_executions.Counting.{range_size}
 use Rattle.core_terms.specs.declared.trees.CTerm.{CTerm}
 use Rattle.core_terms.specs.declared.trees.CTerm.TheVariants.{Const, Slot, Sub, Ite}
 use Rattle.core_terms.specs.declared.trees.CForm.TheVariants.{Zero}

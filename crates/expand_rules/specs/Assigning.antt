@@ -4,15 +4,15 @@ use Rattle.std.specs.Prelude.{ℕ, zero, suc, ◌+◌, ◌*◌, ◌^◌, max, �
 use Rattle.std.specs.Prelude.{true, false, cond, not, ◌&&◌, ◌||◌, Option, Some, None, option_map, nat_le}
 use Rattle.std.specs.Int.RustNames.{unsigned_abs}
 use Rattle.std.specs.Option.{option_and_then, is_some}
-use Rattle.unity_syntax.specs.declared.expression.Expr.{Expr}
-use Rattle.unity_syntax.specs.declared.name.Range.{Range}
-use Rattle.unity_syntax.specs.declared.statement.Target.{Target}
-use Rattle.unity_syntax.specs.declared.statement.Component.{Component, fold-Component}
-use Rattle.unity_syntax.specs.declared.statement.Component.TheOpen.{Component-F, Assign-F}
-use Rattle.unity_syntax.specs.declared.statement.Assign.{Assign, fold-Assign}
-use Rattle.unity_syntax.specs.declared.statement.Items.{Items}
+use Rattle.names_rules.specs.from_unity_syntax.declared.expression.Expr.{Expr}
+use Rattle.names_rules.specs.from_unity_syntax.declared.name.Range.{Range}
+use Rattle.names_rules.specs.from_unity_syntax.declared.statement.Target.{Target}
+use Rattle.names_rules.specs.from_unity_syntax.declared.statement.Component.{Component, fold-Component}
+use Rattle.names_rules.specs.from_unity_syntax.declared.statement.Component.TheOpen.{Component-F, Assign-F}
+use Rattle.names_rules.specs.from_unity_syntax.declared.statement.Assign.{Assign, fold-Assign}
+use Rattle.names_rules.specs.from_unity_syntax.declared.statement.Items.{Items}
 use Rattle.meaning_documents.specs.Names.{Bindings, Variable, slot_at}
-use Rattle.meaning_executions.specs.Counting.{range_size}
+use Rattle.meaning_documents.specs.from_meaning_executions.Counting.{range_size}
 use Rattle.meaning_documents.specs.Writes.{Alternative, alternatives}
 use Rattle.meaning_documents.specs.Instances.{Instance, instances, outermost_first}
 use Rattle.core_terms.specs.declared.trees.CTerm.{CTerm}

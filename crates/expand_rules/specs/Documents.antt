@@ -1,8 +1,8 @@
 -- Where the expressions of a document stand: its variables and words, and its always names, each made once, with those
 -- before it.
 use Rattle.std.specs.Prelude.{ℕ, List, [], ◌∷◌}
-use Rattle.unity_syntax.specs.declared.declaration.Def.{Def}
-use Rattle.unity_syntax.specs.declared.program.Program.{Program}
+use Rattle.names_rules.specs.from_unity_syntax.declared.declaration.Def.{Def}
+use Rattle.names_rules.specs.from_unity_syntax.declared.program.Program.{Program}
 use Rattle.meaning_documents.specs.Setting.{Setting, setting_of}
 use Rattle.expand_rules.specs.declared.cores.Bound.{Bound}
 use Rattle.expand_rules.specs.Forming.{Scope, formed}

@@ -6,17 +6,17 @@ use Rattle.std.specs.Int.RustNames.{int_le, unsigned_abs}
 use Rattle.std.specs.Option.{option_or, is_some}
 use Rattle.std.specs.Map.{lookup}
 use Rattle.std.specs.Str.{bytes_eq}
-use Rattle.case_tables.specs.declared.symbol_table.Symbol.{Symbol}
-use Rattle.case_tables.specs.declared.word_table.Word.{Word}
-use Rattle.unity_syntax.specs.declared.name.End.{End}
-use Rattle.unity_syntax.specs.declared.name.Range.{Range}
-use Rattle.unity_syntax.specs.declared.expression.Expr.{Expr, fold-Expr}
-use Rattle.unity_syntax.specs.declared.expression.Expr.TheOpen.{Expr-F}
-use Rattle.unity_syntax.specs.declared.expression.Operator.{Operator}
-use Rattle.meaning_states.specs.Division.{divisor}
+use Rattle.core_terms.specs.from_case_tables.declared.symbol_table.Symbol.{Symbol}
+use Rattle.core_terms.specs.from_case_tables.declared.word_table.Word.{Word}
+use Rattle.names_rules.specs.from_unity_syntax.declared.name.End.{End}
+use Rattle.names_rules.specs.from_unity_syntax.declared.name.Range.{Range}
+use Rattle.names_rules.specs.from_unity_syntax.declared.expression.Expr.{Expr, fold-Expr}
+use Rattle.names_rules.specs.from_unity_syntax.declared.expression.Expr.TheOpen.{Expr-F}
+use Rattle.names_rules.specs.from_unity_syntax.declared.expression.Operator.{Operator}
+use Rattle.core_terms.specs.from_meaning_states.Division.{divisor}
 use Rattle.meaning_documents.specs.Names.{Bindings, Variable, or_zero, slot_at}
 use Rattle.meaning_documents.specs.Value.{range_values}
-use Rattle.meaning_executions.specs.Counting.{range_size}
+use Rattle.meaning_documents.specs.from_meaning_executions.Counting.{range_size}
 use Rattle.meaning_documents.specs.Names.{variable_named}
 use Rattle.core_terms.specs.declared.trees.CTerm.{CTerm}
 use Rattle.core_terms.specs.declared.trees.CTerm.TheVariants.{Const, Slot, Param}

@@ -5,13 +5,13 @@ use Rattle.std.specs.Prelude.{ℕ, ◌+◌, List, [], ◌∷◌, map, Bool, cond
 use Rattle.std.specs.Prelude.{length}
 use Rattle.std.specs.Int.RustNames.{int_lt}
 use Rattle.std.specs.List.{flat_map, list_any}
-use Rattle.case_tables.specs.declared.code_table.Code.{Code}
-use Rattle.unity_syntax.specs.declared.name.Name.{Name}
-use Rattle.unity_syntax.specs.declared.name.End.{End}
-use Rattle.unity_syntax.specs.declared.name.Range.{Range}
-use Rattle.unity_syntax.specs.declared.statement.Item.{Item, fold-Item}
-use Rattle.unity_syntax.specs.declared.statement.Item.TheOpen.{Item-F, Items-F}
-use Rattle.unity_syntax.specs.declared.statement.Items.{Items, fold-Items}
+use Rattle.core_terms.specs.from_case_tables.declared.code_table.Code.{Code}
+use Rattle.names_rules.specs.from_unity_syntax.declared.name.Name.{Name}
+use Rattle.names_rules.specs.from_unity_syntax.declared.name.End.{End}
+use Rattle.names_rules.specs.from_unity_syntax.declared.name.Range.{Range}
+use Rattle.names_rules.specs.from_unity_syntax.declared.statement.Item.{Item, fold-Item}
+use Rattle.names_rules.specs.from_unity_syntax.declared.statement.Item.TheOpen.{Item-F, Items-F}
+use Rattle.names_rules.specs.from_unity_syntax.declared.statement.Items.{Items, fold-Items}
 use Rattle.meaning_documents.specs.Names.{Bindings}
 use Rattle.meaning_documents.specs.Value.{end_value}
 use Rattle.names_rules.specs.Reading.{Fault, earlier}

@@ -2,8 +2,8 @@
 -- numbers can lie.
 use Rattle.std.specs.Prelude.{ℕ, ◌+◌, ◌*◌, min, max, ℤ, Bool, cond, ◌&&◌, Option, Some, None, nat_le}
 use Rattle.std.specs.Int.RustNames.{unsigned_abs}
-use Rattle.unity_syntax.specs.declared.name.End.{End}
-use Rattle.unity_syntax.specs.declared.name.Range.{Range}
+use Rattle.names_rules.specs.from_unity_syntax.declared.name.End.{End}
+use Rattle.names_rules.specs.from_unity_syntax.declared.name.Range.{Range}
 use Rattle.meaning_documents.specs.Names.{Bindings}
 use Rattle.meaning_documents.specs.Value.{end_value}
 use Rattle.expand_rules.specs.declared.cores.Flaws.{Flaws}

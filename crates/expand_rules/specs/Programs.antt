@@ -1,15 +1,15 @@
 -- The core of programs: the formula of their first states, and their statements.
 use Rattle.std.specs.Prelude.{◌≡◌, ℕ, ℤ, List, [], map, ◌&&◌, true, Option, Some, None, slice_get, length, ⊤}
 use Rattle.std.specs.List.{list_all}
-use Rattle.unity_syntax.specs.declared.program.Initially.{Initially}
-use Rattle.unity_syntax.specs.declared.program.Program.{Program}
-use Rattle.unity_syntax.specs.declared.statement.Items.{Items}
-use Rattle.meaning_states.specs.State.{State, is_state}
-use Rattle.meaning_states.specs.Step.{step}
+use Rattle.names_rules.specs.from_unity_syntax.declared.program.Initially.{Initially}
+use Rattle.names_rules.specs.from_unity_syntax.declared.program.Program.{Program}
+use Rattle.names_rules.specs.from_unity_syntax.declared.statement.Items.{Items}
+use Rattle.core_terms.specs.from_meaning_states.State.{State, is_state}
+use Rattle.core_terms.specs.from_meaning_states.Step.{step}
 use Rattle.meaning_documents.specs.Instances.{Instance, instances}
 use Rattle.meaning_documents.specs.Setting.{setting_of, slot_ranges, is_true_at}
 use Rattle.meaning_documents.specs.Programs.{Composed}
-use Rattle.meaning_executions.specs.Execution.{System}
+use Rattle.meaning_documents.specs.from_meaning_executions.Execution.{System}
 use Rattle.meaning_documents.specs.AsSystem.{instance_step}
 use Rattle.core_terms.specs.declared.trees.CForm.{CForm}
 use Rattle.core_terms.specs.declared.trees.CForm.TheVariants.{Top}

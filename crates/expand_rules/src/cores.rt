@@ -1,5 +1,5 @@
+use core_terms::from_unity_base::Shared;
 use core_terms::{CForm, CTerm};
-use unity_base::Shared;
 
 /// The core of an expression: a term where it is a number, and a formula where it is a truth. Beside
 /// it stands what it is worth where it names no slot and no parameter.

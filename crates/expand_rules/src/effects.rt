@@ -1,6 +1,6 @@
 use crate::cores::Flaws;
+use core_terms::from_unity_base::Seq;
 use core_terms::{CForm, CWrite};
-use unity_base::Seq;
 
 /// How large an assignment is before it is folded, with its quantifiers unfolded.
 #[derive(Clone, Copy)]

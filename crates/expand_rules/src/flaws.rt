@@ -6,7 +6,7 @@ ghost use Rattle.expand_rules.specs.Lists.{flaws_fault};
 ghost use Rattle.names_rules.specs.Answers.{Demands};
 
 use crate::cores::Flaws;
-use case_tables::Code;
+use core_terms::from_case_tables::Code;
 use names_rules::NameFault;
 
 /// The lesser of two places, where there is any.

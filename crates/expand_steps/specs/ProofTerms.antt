@@ -5,7 +5,7 @@ use Rattle.unity_syntax.specs.declared.name.Range.{Range as TextRange}
 use Rattle.unity_syntax.specs.declared.term.Ref.{Ref as TextRef}
 use Rattle.unity_syntax.specs.declared.term.Term.{Term, fold-Term}
 use Rattle.unity_syntax.specs.declared.term.Term.TheOpen.{Term-F}
-use Rattle.meaning_documents.specs.Value.{range_ends}
+use Rattle.expand_rules.specs.from_meaning_documents.Value.{range_ends}
 use Rattle.core_terms.specs.declared.documents.Ref.{Ref}
 use Rattle.core_terms.specs.declared.documents.PTerm.{PTerm}
 use Rattle.core_terms.specs.declared.documents.PTerm.TheVariants.{Imply, From, Trans, Either, Exists, Induct, Psp}

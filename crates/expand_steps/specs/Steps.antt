@@ -30,7 +30,7 @@ use Rattle.expand_rules.specs.Forming.{Scope}
 use Rattle.expand_declarations.specs.Texts.{Texts}
 use Rattle.expand_declarations.specs.WordNumbers.{word_number}
 use Rattle.expand_declarations.specs.References.{step_params, param_range, param_names, text_rule, pair_rule}
-use Rattle.meaning_documents.specs.Steps.{claim_kind}
+use Rattle.expand_rules.specs.from_meaning_documents.Steps.{claim_kind}
 use Rattle.expand_declarations.specs.References.{core_ref}
 use Rattle.expand_steps.specs.Elements.{truth_in, form_in, element_fault}
 use Rattle.expand_steps.specs.ProofTerms.{Place, Termed, param_bound, place, ref_in, termed}

@@ -5,7 +5,7 @@ use Rattle.std.specs.Prelude.{◌≢◌, ◌⊎◌}
 use Rattle.std.specs.List.{list_any}
 use Rattle.std.proofs.lemmas.Bool.{ne_eqb}
 use Rattle.std.proofs.lemmas.Bool.Decides.{eqb_tells}
-use Rattle.meaning_executions.specs.Rounds.{has_all, unfinished, one_more, rounds_since, rounds}
+use Rattle.meaning_laws.specs.from_meaning_executions.Rounds.{has_all, unfinished, one_more, rounds_since, rounds}
 use Rattle.meaning_laws.specs.RoundSums.{unfinished_after}
 use Rattle.meaning_laws.proofs.RoundSumTheorems.{rounds_of_joined}
 use Rattle.fair_rounds.specs.Counts.{since_round, missing}

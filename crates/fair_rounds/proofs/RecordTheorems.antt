@@ -1,11 +1,11 @@
 -- Records that are kept have their properties.
 use Rattle.std.proofs.Common.{ℤ, List, subst}
-use Rattle.case_tables.specs.declared.kind_table.Kind.{Kind}
-use Rattle.meaning_executions.specs.Properties.{implied, IsAlwaysDefined, IsInvariant}
+use Rattle.executor.specs.from_case_tables.declared.kind_table.Kind.{Kind}
+use Rattle.meaning_laws.specs.from_meaning_executions.Properties.{implied, IsAlwaysDefined, IsInvariant}
 use Rattle.meaning_laws.proofs.StandingTheorems.{defined_holds, invariant_holds, unless_holds, ensures_holds}
 use Rattle.meaning_laws.proofs.StandingTheorems.{leads_holds, fixed_holds, constant_holds}
-use Rattle.core_terms.specs.declared.programs.CSlot.{CSlot}
-use Rattle.core_terms.specs.declared.programs.CProgram.{CProgram}
+use Rattle.executor.specs.from_core_terms.declared.programs.CSlot.{CSlot}
+use Rattle.executor.specs.from_core_terms.declared.programs.CProgram.{CProgram}
 use Rattle.fair_rounds.specs.declared.records.Record.{Record}
 use Rattle.executor.specs.CoreSystem.{core_system}
 use Rattle.fair_rounds.specs.Records.{holding, meets, KindStands, KindHolds}

@@ -2,7 +2,7 @@
 use Rattle.std.specs.Prelude.{◌≡◌, ℕ, zero, suc, ◌-◌, ◌/◌, ◌%◌, ◌^◌, nat_eq, min, List, [], Bool, cond, slice_index_or}
 use Rattle.std.specs.Int.{bit_at}
 use Rattle.std.specs.List.{list_any}
-use Rattle.meaning_executions.specs.Rounds as meaning
+use Rattle.meaning_laws.specs.from_meaning_executions.Rounds as meaning
 use Rattle.meaning_laws.specs.RoundSums.{unfinished_after}
 use Rattle.fair_rounds.specs.declared.counts.RoundCount.{RoundCount}
 

@@ -1,9 +1,9 @@
 -- Records that are kept have their properties.
 use Rattle.std.specs.Prelude.{◌≡◌, ℤ, List, IsTrue}
-use Rattle.case_tables.specs.declared.kind_table.Kind.{Kind}
-use Rattle.meaning_executions.specs.Properties.{IsAlwaysDefined, IsInvariant}
-use Rattle.core_terms.specs.declared.programs.CSlot.{CSlot}
-use Rattle.core_terms.specs.declared.programs.CProgram.{CProgram}
+use Rattle.executor.specs.from_case_tables.declared.kind_table.Kind.{Kind}
+use Rattle.meaning_laws.specs.from_meaning_executions.Properties.{IsAlwaysDefined, IsInvariant}
+use Rattle.executor.specs.from_core_terms.declared.programs.CSlot.{CSlot}
+use Rattle.executor.specs.from_core_terms.declared.programs.CProgram.{CProgram}
 use Rattle.fair_rounds.specs.declared.records.Record.{Record}
 use Rattle.executor.specs.CoreSystem.{core_system}
 use Rattle.fair_rounds.specs.Records.{holding, are_in_ranges, IsKept, Holds}

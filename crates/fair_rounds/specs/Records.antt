@@ -2,22 +2,23 @@
 use Rattle.std.specs.Prelude.{◌≡◌, ℕ, nat_eq, ℤ, Bool, true, false, ◌&&◌, List, [], ◌∷◌, Option, Some, None}
 use Rattle.std.specs.Prelude.{IsTrue, slice_get}
 use Rattle.std.specs.List.{list_all}
-use Rattle.case_tables.specs.declared.kind_table.Kind.{Kind}
-use Rattle.meaning_states.specs.State.{is_state, in_range}
-use Rattle.meaning_executions.specs.Counting.{ints_eq}
-use Rattle.meaning_executions.specs.Properties.{Test, implied, IsAlwaysDefined, IsInvariant, Unless, Ensures, LeadsTo}
-use Rattle.meaning_executions.specs.Properties.{Until, Detects, Constant, Fixed}
+use Rattle.executor.specs.from_case_tables.declared.kind_table.Kind.{Kind}
+use Rattle.meaning_laws.specs.from_meaning_states.State.{is_state, in_range}
+use Rattle.meaning_laws.specs.from_meaning_executions.Counting.{ints_eq}
+use Rattle.meaning_laws.specs.from_meaning_executions.Properties.{Test, implied, IsAlwaysDefined, IsInvariant, Unless}
+use Rattle.meaning_laws.specs.from_meaning_executions.Properties.{Ensures, LeadsTo}
+use Rattle.meaning_laws.specs.from_meaning_executions.Properties.{Until, Detects, Constant, Fixed}
 use Rattle.meaning_laws.specs.Stands.{DefinedStands, FixedStands, InvariantStands, UnlessStands, ConstantStands}
 use Rattle.meaning_laws.specs.Stands.{EnsuresStands, LeadsStands}
-use Rattle.core_terms.specs.declared.trees.Range.{Range}
-use Rattle.core_terms.specs.declared.trees.CForm.{CForm}
-use Rattle.core_terms.specs.declared.programs.CStmt.{CStmt}
-use Rattle.core_terms.specs.declared.programs.CSlot.{CSlot}
-use Rattle.core_terms.specs.declared.programs.CProgram.{CProgram}
-use Rattle.core_terms.specs.declared.documents.Helper.{Helper}
-use Rattle.core_terms.specs.Values.{form_value}
-use Rattle.core_terms.specs.Steps.{slot_ranges}
-use Rattle.core_terms.specs.Replacing.{arg_values}
+use Rattle.executor.specs.from_core_terms.declared.trees.Range.{Range}
+use Rattle.executor.specs.from_core_terms.declared.trees.CForm.{CForm}
+use Rattle.executor.specs.from_core_terms.declared.programs.CStmt.{CStmt}
+use Rattle.executor.specs.from_core_terms.declared.programs.CSlot.{CSlot}
+use Rattle.executor.specs.from_core_terms.declared.programs.CProgram.{CProgram}
+use Rattle.executor.specs.from_core_terms.declared.documents.Helper.{Helper}
+use Rattle.executor.specs.from_core_terms.Values.{form_value}
+use Rattle.executor.specs.from_core_terms.Steps.{slot_ranges}
+use Rattle.executor.specs.from_core_terms.Replacing.{arg_values}
 use Rattle.executor.specs.CoreSystem.{core_system}
 use Rattle.fair_rounds.specs.declared.records.Record.{Record}
 

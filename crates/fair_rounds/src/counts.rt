@@ -1,6 +1,6 @@
 // Rounds, counted one choice at a time.
 ghost use Rattle.std.specs.Prelude.{◌≡◌, ℕ, List, [], ◌∷◌, ◌++◌, ◌-◌, ◌^◌, ◌<◌, ◌≤◌, min, All};
-ghost use Rattle.meaning_executions.specs.Rounds as meaning;
+ghost use Rattle.meaning_laws.specs.from_meaning_executions.Rounds as meaning;
 
 use crate::marks::Marks;
 

@@ -7,5 +7,6 @@ mod marks;
 mod records;
 
 pub use counts::{RoundCount, rounds};
+pub use executor as from_executor;
 pub use laws::record_laws;
 pub use records::Record;

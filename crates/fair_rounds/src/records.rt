@@ -1,7 +1,7 @@
 // What a step of a proof left.
-use case_tables::Kind;
-use core_terms::{CForm, Helper, Range};
-use unity_base::Seq;
+use executor::from_case_tables::Kind;
+use executor::from_core_terms::{CForm, Helper, Range};
+use executor::from_unity_base::Seq;
 
 /// A property that a step of a proof gave. Names are words' numbers.
 #[derive(Drop)]

@@ -25,11 +25,11 @@ use Rattle.run_traces.specs.declared.trace_error.TraceError.{TraceError}
 use Rattle.run_traces.specs.declared.error.RunError.{RunError}
 use Rattle.run_traces.specs.Traces.{all_defined, ending, steps_text as core_steps_text}
 use Rattle.run_traces.proofs.TraceTheorems.{steps_same}
-use Rattle.expand_documents.specs.Cores.{core_document}
-use Rattle.expand_documents.specs.Faults.{expansion_fault}
-use Rattle.expand_correct.specs.Preserved.Meaning.{IsCoreProgramOf}
-use Rattle.expand_correct.proofs.Values.Operations.{two}
-use Rattle.expand_correct.proofs.Preserved.Meaning.{slots_match, programs_alike}
+use Rattle.run_correct.specs.from_expand_documents.Cores.{core_document}
+use Rattle.run_correct.specs.from_expand_documents.Faults.{expansion_fault}
+use Rattle.run_correct.specs.from_expand_correct.Preserved.Meaning.{IsCoreProgramOf}
+use Rattle.run_correct.proofs.lemmas_from_expand_correct.Values.Operations.{two}
+use Rattle.run_correct.proofs.lemmas_from_expand_correct.Preserved.Meaning.{slots_match, programs_alike}
 use Rattle.fixed_runs.specs.Traces.{fixed_after, up_to, fixed_lines, fixed_choices, fixed_text, fixed_defined}
 use Rattle.fixed_runs.specs.Answers.{CoreFixedTraces, CoreFixedRunTraces}
 use Rattle.run_correct.specs.Traces.{source_system, first_state, heading_line, state_line, steps_text}

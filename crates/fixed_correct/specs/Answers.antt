@@ -10,7 +10,7 @@ use Rattle.schedule_replay.specs.Schedules.{turns}
 use Rattle.run_traces.specs.declared.trace_error.TraceError.{TraceError}
 use Rattle.run_traces.specs.declared.error.RunError.{RunError}
 use Rattle.run_traces.specs.Traces.{ending}
-use Rattle.expand_correct.specs.Preserved.Meaning.{IsCoreProgramOf}
+use Rattle.run_correct.specs.from_expand_correct.Preserved.Meaning.{IsCoreProgramOf}
 use Rattle.fixed_runs.specs.Traces.{fixed_defined}
 use Rattle.run_correct.specs.Traces.{source_system, first_state}
 use Rattle.fixed_correct.specs.Traces.{fixed_trace}

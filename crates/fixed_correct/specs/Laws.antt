@@ -5,8 +5,8 @@ use Rattle.names_rules.specs.WellNamed.{IsWellNamed}
 use Rattle.core_terms.specs.Conditions.{IsCoreDocument}
 use Rattle.executor.specs.declared.runner.Stepped.{Stepped}
 use Rattle.run_traces.specs.declared.error.RunError.{RunError}
-use Rattle.expand_documents.specs.Cores.{core_document}
-use Rattle.expand_documents.specs.Faults.{expansion_fault}
+use Rattle.run_correct.specs.from_expand_documents.Cores.{core_document}
+use Rattle.run_correct.specs.from_expand_documents.Faults.{expansion_fault}
 use Rattle.fixed_runs.specs.Answers.{CoreFixedRuns}
 use Rattle.fixed_correct.specs.Answers.{FixedRuns}
 

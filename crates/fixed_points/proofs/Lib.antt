@@ -1,3 +1,4 @@
+pub use Rattle.wp_substitution.proofs as lemmas_from_wp_substitution
 pub mod SlotLaws
 pub mod WriteLaws
 pub mod PointLaws

@@ -4,7 +4,7 @@ use Rattle.std.proofs.Common.{◌∙◌, subst, slice_get, map}
 use Rattle.std.specs.List.{list_all}
 use Rattle.meaning_states.specs.State.{State}
 use Rattle.meaning_states.proofs.StepTheorems.{and_left, and_right, both_true}
-use Rattle.meaning_executions.specs.Execution.{Act, act_step}
+use Rattle.executor.specs.from_meaning_executions.Execution.{Act, act_step}
 use Rattle.core_terms.specs.declared.programs.CSlot.{CSlot}
 use Rattle.core_terms.specs.declared.programs.CStmt.{CStmt}
 use Rattle.core_terms.specs.declared.programs.CProgram.{CProgram}

@@ -11,7 +11,7 @@ use Rattle.meaning_states.specs.StepLaws.{IsWrite}
 use Rattle.meaning_states.proofs.StepTheorems.{and_left, and_right, both_true, same_number, step_defined}
 use Rattle.meaning_states.proofs.StepTheorems.{written_has_value}
 use Rattle.core_terms.proofs.BoolLaws.{le_passes}
-use Rattle.meaning_executions.specs.Counting.{ints_eq}
+use Rattle.executor.specs.from_meaning_executions.Counting.{ints_eq}
 use Rattle.fixed_points.specs.FixedPoints.{leads_to}
 use Rattle.fixed_points.specs.Leaving.{is_that_number, changes_nothing}
 

@@ -1,7 +1,7 @@
 -- The formula of where a state is a fixed point.
 use Rattle.std.specs.Prelude.{◌≡◌, ℕ, ℤ, List, map, Some, IsTrue}
 use Rattle.meaning_states.specs.State.{State, is_state}
-use Rattle.meaning_executions.specs.Execution.{chosen_step}
+use Rattle.executor.specs.from_meaning_executions.Execution.{chosen_step}
 use Rattle.core_terms.specs.declared.trees.CTerm.TheVariants.{Slot}
 use Rattle.core_terms.specs.declared.trees.CForm.{CForm}
 use Rattle.core_terms.specs.declared.programs.CSlot.{CSlot}

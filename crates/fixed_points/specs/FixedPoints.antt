@@ -2,9 +2,9 @@
 use Rattle.std.specs.Prelude.{Bool, false, Option, Some, None}
 use Rattle.std.specs.List.{list_all}
 use Rattle.meaning_states.specs.State.{State}
-use Rattle.meaning_executions.specs.Execution.{System}
-use Rattle.meaning_executions.specs.Properties.{Test}
-use Rattle.meaning_executions.specs.Counting.{ints_eq}
+use Rattle.executor.specs.from_meaning_executions.Execution.{System}
+use Rattle.executor.specs.from_meaning_executions.Properties.{Test}
+use Rattle.executor.specs.from_meaning_executions.Counting.{ints_eq}
 
 -- the step is defined and leads to this state
 abbrev pub leads_to : Option State → State → Bool

@@ -1,8 +1,8 @@
 -- Laws of fixed points.
 use Rattle.std.specs.Prelude.{◌≡◌, ◌↔◌, ℕ, Some, IsTrue}
 use Rattle.meaning_states.specs.State.{State}
-use Rattle.meaning_executions.specs.Execution.{System, chosen_step}
-use Rattle.meaning_executions.specs.Properties.{IsFixedPoint}
+use Rattle.executor.specs.from_meaning_executions.Execution.{System, chosen_step}
+use Rattle.executor.specs.from_meaning_executions.Properties.{IsFixedPoint}
 use Rattle.fixed_points.specs.FixedPoints.{is_fixed}
 
 -- the test passes exactly at fixed points

@@ -3,17 +3,17 @@ use Rattle.std.proofs.Common.{◌≡◌, ℕ, zero, suc, ◌<◌, ◌≤◌, Lis
 use Rattle.std.proofs.Common.{Some, IsTrue, refl, sym, ap, ◌∙◌, subst, slice_get, length, drop, nat_lt, arith}
 use Rattle.std.proofs.lemmas.Bool.{ltb-true, ltb-false}
 use Rattle.meaning_states.specs.State.{State}
-use Rattle.meaning_executions.specs.Execution.{System, Steps, IsExecution, chosen_step}
-use Rattle.meaning_executions.specs.Rounds.{rounds}
-use Rattle.meaning_executions.specs.Properties.{Test}
-use Rattle.meaning_executions.specs.Systems.{kept}
+use Rattle.meaning_laws.specs.from_meaning_executions.Execution.{System, Steps, IsExecution, chosen_step}
+use Rattle.meaning_laws.specs.from_meaning_executions.Rounds.{rounds}
+use Rattle.meaning_laws.specs.from_meaning_executions.Properties.{Test}
+use Rattle.meaning_laws.specs.from_meaning_executions.Systems.{kept}
 use Rattle.meaning_laws.specs.Stands.{UnlessStands, EnsuresStands}
 use Rattle.layer_laws.specs.Layers.{Back, IsOver, choices_below, states_below, IsBlind, Guards, ProjectionRuns}
 use Rattle.layer_laws.specs.Layers.{UnlessCarried, EnsuresCarried, InvariantCarried, LeadsCarried, ThroughoutCarried}
 use Rattle.meaning_states.proofs.StepTheorems.{and_left}
 use Rattle.meaning_laws.proofs.TruthLaws.{or_left}
 use Rattle.meaning_laws.proofs.KeptTheorems.{kept_runs, kept_length}
-use Rattle.meaning_executions.proofs.PropertyTheorems.{leads_is_follows}
+use Rattle.meaning_laws.proofs.lemmas_from_meaning_executions.PropertyTheorems.{leads_is_follows}
 use Rattle.layer_laws.proofs.RoundsBelow.{rounds_of_below}
 
 -- a state of the projection is one of the layer, from a place on, put back

@@ -4,7 +4,7 @@ use Rattle.std.proofs.Common.{nat_eq, nat_lt, sym, subst, arith, inl, inr}
 use Rattle.std.specs.List.{list_any}
 use Rattle.std.proofs.lemmas.Bool.{ltb-false, eqb-true}
 use Rattle.std.proofs.lemmas.Bool.Decides.{leb_tells}
-use Rattle.meaning_executions.specs.Rounds.{has_all, rounds_since}
+use Rattle.meaning_laws.specs.from_meaning_executions.Rounds.{has_all, rounds_since}
 use Rattle.layer_laws.specs.Layers.{choices_below, RoundsOfBelow}
 use Rattle.meaning_states.proofs.StepTheorems.{and_left, and_right, both_true}
 use Rattle.meaning_laws.proofs.TruthLaws.{cases, or_left, or_right}

@@ -2,7 +2,7 @@
 use Rattle.std.proofs.Common.{◌≡◌, ℕ, zero, suc, ◌<◌, ◌≤◌, List, [], ◌∷◌, Bool, true, false, cond, Option, Some, None}
 use Rattle.std.proofs.Common.{IsTrue, refl, sym, ap, ◌∙◌, subst, slice_get, length, map, arith}
 use Rattle.meaning_states.specs.State.{State, Ranges}
-use Rattle.meaning_executions.specs.Execution.{act_step}
+use Rattle.meaning_laws.specs.from_meaning_executions.Execution.{act_step}
 use Rattle.meaning_states.specs.Step.{is_defined, written, step}
 use Rattle.layer_laws.specs.Resets.{reset, old_writes}
 use Rattle.layer_laws.specs.Writing.{StateWrites, act_of, Extends, WritingLayer}

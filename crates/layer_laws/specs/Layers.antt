@@ -1,9 +1,9 @@
 -- Layers: systems that do what a system under them does, and more to slots of their own.
 use Rattle.std.specs.Prelude.{◌≡◌, ℕ, ◌<◌, ◌≤◌, nat_lt, List, [], ◌∷◌, cond, Some, IsTrue, length}
 use Rattle.meaning_states.specs.State.{State}
-use Rattle.meaning_executions.specs.Execution.{System, IsExecution, chosen_step}
-use Rattle.meaning_executions.specs.Rounds.{rounds}
-use Rattle.meaning_executions.specs.Properties.{Test, IsInvariant}
+use Rattle.meaning_laws.specs.from_meaning_executions.Execution.{System, IsExecution, chosen_step}
+use Rattle.meaning_laws.specs.from_meaning_executions.Rounds.{rounds}
+use Rattle.meaning_laws.specs.from_meaning_executions.Properties.{Test, IsInvariant}
 use Rattle.meaning_laws.specs.Stands.{InvariantStands, UnlessStands, EnsuresStands, LeadsStands}
 
 -- a state with the layer's own slots as they are in another, the first

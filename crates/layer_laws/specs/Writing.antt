@@ -1,7 +1,7 @@
 -- Systems whose instances make writes, and layers of them.
 use Rattle.std.specs.Prelude.{◌≡◌, ℕ, ◌<◌, ◌≤◌, List, Bool, Some, IsTrue, length, map, slice_get}
 use Rattle.meaning_states.specs.State.{State, Ranges}
-use Rattle.meaning_executions.specs.Execution.{Act, System}
+use Rattle.meaning_laws.specs.from_meaning_executions.Execution.{Act, System}
 use Rattle.meaning_states.specs.Step.{Write, is_defined, step}
 use Rattle.layer_laws.specs.Layers.{IsOver}
 use Rattle.layer_laws.specs.Resets.{reset, old_writes}

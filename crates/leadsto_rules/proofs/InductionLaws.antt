@@ -19,15 +19,16 @@ use Rattle.core_terms.specs.declared.trees.CTerm.TheVariants.{Const}
 use Rattle.core_terms.specs.declared.trees.Range.{Range}
 use Rattle.core_terms.proofs.WeightLaws.{own_within}
 use Rattle.core_terms.proofs.HeavierLaws.{term_scaled}
-use Rattle.wp_substitution.proofs.LightLaws.{form_light}
-use Rattle.wp_substitution.proofs.PlaceLaws.{difference_within, constant_within, at_least_within}
+use Rattle.safety_rules.proofs.lemmas_from_wp_substitution.LightLaws.{form_light}
+use Rattle.safety_rules.proofs.lemmas_from_wp_substitution.PlaceLaws.{difference_within, constant_within}
+use Rattle.safety_rules.proofs.lemmas_from_wp_substitution.PlaceLaws.{at_least_within}
 use Rattle.safety_rules.specs.Foldable.{IsFoldable}
 use Rattle.safety_rules.proofs.JoinLaws.{all_foldable}
 use Rattle.rules_table.specs.Forms.{imply}
 use Rattle.rules_table.specs.Terms.{measure_lies}
 use Rattle.safety_rules.specs.Usable.{NamesExist}
 use Rattle.safety_rules.proofs.UsableLaws.{usable, all_usable}
-use Rattle.wp_substitution.proofs.NamedLaws.{slot_counts, param_counts}
+use Rattle.safety_rules.proofs.lemmas_from_wp_substitution.NamedLaws.{slot_counts, param_counts}
 use Rattle.safety_rules.proofs.UsableLaws.{both_usable, light_not, all_exist, exist_imply, exist_and}
 use Rattle.leadsto_rules.specs.Inductions.{IsLightInduction, InductionFits}
 use Rattle.leadsto_rules.specs.declared.inductions.Induction.{Induction}

@@ -10,7 +10,7 @@ use Rattle.core_terms.specs.Folding.{and_form, or_form}
 use Rattle.core_terms.specs.declared.programs.CSlot.{CSlot}
 use Rattle.core_terms.specs.declared.trees.CForm.{CForm}
 use Rattle.core_terms.specs.declared.trees.Range.{Range}
-use Rattle.wp_substitution.proofs.LightLaws.{form_light}
+use Rattle.safety_rules.proofs.lemmas_from_wp_substitution.LightLaws.{form_light}
 use Rattle.safety_rules.specs.Foldable.{IsFoldable}
 use Rattle.safety_rules.proofs.JoinLaws.{all_foldable}
 use Rattle.rules_table.specs.Forms.{imply}

@@ -18,8 +18,9 @@ use Rattle.rules_table.specs.Numbers.{args_from, form_for}
 use Rattle.safety_rules.specs.Usable.{NamesExist}
 use Rattle.safety_rules.proofs.ParamLaws.{params_kept}
 use Rattle.safety_rules.proofs.UsableLaws.{exist_or}
-use Rattle.wp_substitution.proofs.NamedLaws.{slot_counts, param_counts}
-use Rattle.wp_substitution.proofs.PlaceLaws.{count-Slot, count-Param, constant_within, bottom_within, form_within}
+use Rattle.safety_rules.proofs.lemmas_from_wp_substitution.NamedLaws.{slot_counts, param_counts}
+use Rattle.safety_rules.proofs.lemmas_from_wp_substitution.PlaceLaws.{count-Slot, count-Param, constant_within}
+use Rattle.safety_rules.proofs.lemmas_from_wp_substitution.PlaceLaws.{bottom_within, form_within}
 use Rattle.leadsto_rules.proofs.ArgLaws.{each_argument}
 
 abbrev Same : PTerm → Type 0

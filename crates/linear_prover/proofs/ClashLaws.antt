@@ -12,7 +12,7 @@ use Rattle.obligations.specs.declared.branches.Fact.{Fact}
 use Rattle.obligations.specs.declared.branches.Line.{Line}
 use Rattle.obligations.specs.declared.certificates.Node.{Node}
 use Rattle.case_tables.specs.declared.code_table.Code.{Code}
-use Rattle.core_terms.specs.Values.{number_at}
+use Rattle.obligations.specs.from_core_terms.Values.{number_at}
 use Rattle.meaning_states.specs.State.{int_eq}
 use Rattle.obligations.specs.LinearForms.{sparse, fact_of}
 use Rattle.obligations.specs.Load.{in_limit}

@@ -11,7 +11,7 @@ use Rattle.std.proofs.lemmas.Nat.{div-mul-add}
 use Rattle.std.proofs.lemmas.Nat.Gcd.{dvd_trans, dvd-zero, mod-eq-zero_of_dvd}
 use Rattle.std.proofs.lemmas.Int.{ints}
 use Rattle.std.proofs.lemmas.Bool.{and_parts}
-use Rattle.core_terms.specs.Values.{number_at}
+use Rattle.obligations.specs.from_core_terms.Values.{number_at}
 use Rattle.meaning_states.specs.State.{int_eq}
 use Rattle.obligations.specs.LinearForms.{sparse}
 use Rattle.obligations.specs.Reach.{is_exact, are_opposite, gcd, divisor_of, is_moderate}

@@ -12,7 +12,7 @@ use Rattle.std.proofs.lemmas.Int.{ints}
 use Rattle.std.proofs.lemmas.Bool.{and_parts}
 use lib.IntN.{*ℤ-zero}
 use Rattle.meaning_states.specs.State.{int_eq}
-use Rattle.core_terms.specs.Values.{number_at}
+use Rattle.obligations.specs.from_core_terms.Values.{number_at}
 use Rattle.case_tables.specs.declared.code_table.Code.{Code}
 use Rattle.obligations.specs.declared.branches.Fact.{Fact}
 use Rattle.obligations.specs.declared.branches.Line.{Line}

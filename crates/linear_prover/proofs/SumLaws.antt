@@ -11,7 +11,7 @@ use lib.IntN.{*ℤ-zero}
 use Rattle.obligations.specs.declared.branches.Fact.{Fact}
 use Rattle.obligations.specs.declared.branches.Line.{Line}
 use Rattle.case_tables.specs.declared.code_table.Code.{Code}
-use Rattle.core_terms.specs.Values.{number_at}
+use Rattle.obligations.specs.from_core_terms.Values.{number_at}
 use Rattle.meaning_states.specs.State.{int_eq}
 use Rattle.obligations.specs.LinearForms.{add_at}
 use Rattle.obligations.specs.Load.{in_limit}

@@ -6,8 +6,9 @@ use Rattle.std.specs.List.{list_all}
 use Rattle.std.proofs.lemmas.List.{length-map, map-append}
 use Rattle.std.proofs.lemmas.List.Folds.{list_all-append}
 use Rattle.unity_syntax.specs.declared.expression.Expr.{Expr}
-use Rattle.meaning_states.specs.State.{State, is_state}
-use Rattle.meaning_states.proofs.StepTheorems.{and_left, and_right, both_true, step_keeps_ranges}
+use Rattle.meaning_executions.specs.from_meaning_states.State.{State, is_state}
+use Rattle.meaning_executions.proofs.lemmas_from_meaning_states.StepTheorems.{and_left, and_right, both_true}
+use Rattle.meaning_executions.proofs.lemmas_from_meaning_states.StepTheorems.{step_keeps_ranges}
 use Rattle.meaning_executions.specs.Execution.{act_step}
 use Rattle.meaning_executions.specs.Properties.{Test, Unless, never}
 use Rattle.meaning_executions.specs.Systems.{together}

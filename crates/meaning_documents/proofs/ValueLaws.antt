@@ -1,8 +1,8 @@
 -- The value of each kind of expression, one equation for each.
 use Rattle.std.proofs.Common.{◌≡◌, ℕ, pos, List, map, Bool, not, ◌&&◌, ◌||◌, Some, None, sym, ap, ◌∙◌}
 use Rattle.std.specs.List.{list_all, list_any}
-use Rattle.case_tables.specs.declared.symbol_table.Symbol.{Symbol}
-use Rattle.case_tables.specs.declared.word_table.Word.{Word}
+use Rattle.unity_syntax.specs.from_case_tables.declared.symbol_table.Symbol.{Symbol}
+use Rattle.unity_syntax.specs.from_case_tables.declared.word_table.Word.{Word}
 use Rattle.unity_syntax.specs.declared.name.Name.{Name}
 use Rattle.unity_syntax.specs.declared.name.Range.{Range}
 use Rattle.unity_syntax.specs.declared.expression.Operator.{Operator}

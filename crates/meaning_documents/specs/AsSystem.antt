@@ -1,8 +1,8 @@
 -- A program, or a union, as its executions see it: a system.
 use Rattle.std.specs.Prelude.{[], Bool, ◌&&◌, map}
 use Rattle.std.specs.List.{list_all}
-use Rattle.meaning_states.specs.State.{State, is_state}
-use Rattle.meaning_states.specs.Step.{step}
+use Rattle.meaning_executions.specs.from_meaning_states.State.{State, is_state}
+use Rattle.meaning_executions.specs.from_meaning_states.Step.{step}
 use Rattle.meaning_executions.specs.Execution.{Act, System}
 use Rattle.meaning_documents.specs.Writes.{writes}
 use Rattle.meaning_documents.specs.Instances.{Instance}

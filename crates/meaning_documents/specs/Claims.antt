@@ -1,12 +1,12 @@
 -- What the steps of a proof claim.
 use Rattle.std.specs.Prelude.{◌≡◌, ℕ, ℤ, List, [], ◌∷◌, Bool, true, false, ◌&&◌, Option, Some, None, IsTrue}
-use Rattle.case_tables.specs.declared.word_table.Word.{Word}
+use Rattle.unity_syntax.specs.from_case_tables.declared.word_table.Word.{Word}
 use Rattle.unity_syntax.specs.declared.proof.Param.{Param}
 use Rattle.unity_syntax.specs.declared.proof.Claim.{Claim}
 use Rattle.unity_syntax.specs.declared.proof.Step.{Step}
 use Rattle.unity_syntax.specs.declared.proof.Proof.{Proof}
 use Rattle.unity_syntax.specs.declared.document.Document.{Document}
-use Rattle.meaning_states.specs.State.{in_range}
+use Rattle.meaning_executions.specs.from_meaning_states.State.{in_range}
 use Rattle.meaning_documents.specs.Names.{Bindings}
 use Rattle.meaning_documents.specs.Value.{range_ends}
 use Rattle.meaning_documents.specs.Setting.{Setting, is_true_at}

@@ -1,3 +1,4 @@
+pub use Rattle.meaning_executions.specs as from_meaning_executions
 pub mod AsSystem
 pub mod Claims
 pub mod Instances

@@ -2,7 +2,7 @@
 use Rattle.std.specs.Prelude.{ℕ, ◌+◌, ℤ, pos, ◌-ℤ◌, List, [], ◌∷◌, cond, Bool, Option, Some, None}
 use Rattle.std.specs.Prelude.{slice_index_or}
 use Rattle.std.specs.Str.{bytes_eq}
-use Rattle.meaning_states.specs.State.{State, in_range}
+use Rattle.meaning_executions.specs.from_meaning_states.State.{State, in_range}
 use Rattle.meaning_executions.specs.Counting.{natural}
 
 -- numbers by name; of two with one name, the first counts

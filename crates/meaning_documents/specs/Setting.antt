@@ -11,7 +11,7 @@ use Rattle.unity_syntax.specs.declared.declaration.Var.{Var}
 use Rattle.unity_syntax.specs.declared.declaration.Def.{Def}
 use Rattle.unity_syntax.specs.declared.program.Program.{Program}
 use Rattle.unity_syntax.specs.declared.document.Part.{Part}
-use Rattle.meaning_states.specs.State.{State, Ranges}
+use Rattle.meaning_executions.specs.from_meaning_states.State.{State, Ranges}
 use Rattle.meaning_documents.specs.Names.{Bindings, Variable, Sight}
 use Rattle.meaning_documents.specs.Value.{value, holds, range_ends}
 use Rattle.meaning_executions.specs.Counting.{range_size}

@@ -1,7 +1,7 @@
 -- The proofs of a document, their steps, and the kinds of their claims.
 use Rattle.std.specs.Prelude.{◌≡◌, ℕ, List, [], ◌∷◌, ◌++◌, map, Some, slice_get}
-use Rattle.case_tables.specs.declared.kind_table.Kind.{Kind}
-use Rattle.case_tables.specs.declared.word_table.Word.{Word}
+use Rattle.unity_syntax.specs.from_case_tables.declared.kind_table.Kind.{Kind}
+use Rattle.unity_syntax.specs.from_case_tables.declared.word_table.Word.{Word}
 use Rattle.unity_syntax.specs.declared.proof.Claim.{Claim}
 use Rattle.unity_syntax.specs.declared.proof.Step.{Step}
 use Rattle.unity_syntax.specs.declared.proof.Proof.{Proof}

@@ -2,8 +2,8 @@
 use Rattle.std.specs.Prelude.{◌≡◌, ℕ, ◌++◌, ◌↔◌, IsTrue, length}
 use Rattle.unity_syntax.specs.declared.expression.Expr.{Expr}
 use Rattle.unity_syntax.specs.declared.proof.Claim.{Claim}
-use Rattle.case_tables.specs.declared.word_table.Word.{Word}
-use Rattle.meaning_states.specs.State.{State, is_state}
+use Rattle.unity_syntax.specs.from_case_tables.declared.word_table.Word.{Word}
+use Rattle.meaning_executions.specs.from_meaning_states.State.{State, is_state}
 use Rattle.meaning_executions.specs.Execution.{System, chosen_step}
 use Rattle.meaning_executions.specs.Properties.{Everywhere}
 use Rattle.meaning_executions.specs.Systems.{together}

@@ -3,15 +3,15 @@ use Rattle.std.specs.Prelude.{ℕ, ℤ, pos, neg_ℤ, ◌+ℤ◌, ◌-ℤ◌, �
 use Rattle.std.specs.Prelude.{◌&&◌, ◌||◌, Option, Some, None}
 use Rattle.std.specs.Int.RustNames.{int_lt, int_le}
 use Rattle.std.specs.List.{list_all, list_any}
-use Rattle.case_tables.specs.declared.symbol_table.Symbol.{Symbol}
-use Rattle.case_tables.specs.declared.word_table.Word.{Word}
+use Rattle.unity_syntax.specs.from_case_tables.declared.symbol_table.Symbol.{Symbol}
+use Rattle.unity_syntax.specs.from_case_tables.declared.word_table.Word.{Word}
 use Rattle.unity_syntax.specs.declared.name.End.{End}
 use Rattle.unity_syntax.specs.declared.name.Range.{Range}
 use Rattle.unity_syntax.specs.declared.expression.Operator.{Operator}
 use Rattle.unity_syntax.specs.declared.expression.Expr.{Expr, fold-Expr}
 use Rattle.unity_syntax.specs.declared.expression.Expr.TheOpen.{Expr-F}
-use Rattle.meaning_states.specs.State.{int_eq}
-use Rattle.meaning_states.specs.Division.{floored, rest_of}
+use Rattle.meaning_executions.specs.from_meaning_states.State.{int_eq}
+use Rattle.meaning_executions.specs.from_meaning_states.Division.{floored, rest_of}
 use Rattle.meaning_documents.specs.Names.{Bindings, Sight, with_name, number_of, or_zero, word_value}
 use Rattle.meaning_executions.specs.Counting.{range_size, count_up}
 use Rattle.meaning_documents.specs.Names.{element_value}

@@ -9,7 +9,7 @@ use Rattle.unity_syntax.specs.declared.statement.Component.TheOpen.{Component-F,
 use Rattle.unity_syntax.specs.declared.statement.Assign.{Assign, fold-Assign}
 use Rattle.meaning_documents.specs.Names.{Sight, with_name, slot_named}
 use Rattle.meaning_documents.specs.Value.{value, holds, range_values}
-use Rattle.meaning_states.specs.Step.{Write}
+use Rattle.meaning_executions.specs.from_meaning_states.Step.{Write}
 
 -- values, and the condition under which they are taken, if there is one
 abbrev pub Alternative : Type 0

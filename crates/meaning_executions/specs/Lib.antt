@@ -1,3 +1,4 @@
+pub use Rattle.meaning_states.specs as from_meaning_states
 pub mod Alike
 pub mod Counting
 pub mod Execution

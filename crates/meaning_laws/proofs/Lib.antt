@@ -1,3 +1,4 @@
+pub use Rattle.meaning_executions.proofs as lemmas_from_meaning_executions
 pub mod AlikeTheorems
 pub mod CompletionTheorems
 pub mod ExampleTrials

@@ -1,3 +1,5 @@
+pub use Rattle.meaning_executions.specs as from_meaning_executions
+pub use Rattle.meaning_states.specs as from_meaning_states
 pub mod AlikeLaws
 pub mod Examples
 pub mod KeptLaws

@@ -1,6 +1,6 @@
 -- Where there is no fault, none of two is there, and each condition holds.
 use Rattle.std.proofs.Common.{◌≡◌, ℕ, Bool, true, false, refl, Option, Some, None}
-use Rattle.case_tables.specs.declared.code_table.Code.{Code}
+use Rattle.unity_syntax.specs.from_case_tables.declared.code_table.Code.{Code}
 use Rattle.names_rules.specs.Reading.{Fault, earlier, unless}
 
 pub earlier_first : (f g : Option Fault) → earlier f g ≡ None → f ≡ None

@@ -3,7 +3,7 @@ use Rattle.std.proofs.Common.{◌≡◌, ℕ, Bool, true, false, not, refl, ◌+
 use Rattle.std.proofs.Common.{subst, append_assoc}
 use Rattle.names_rules.specs.declared.named.NameFault.{NameFault}
 use Rattle.names_rules.specs.Reading.{Fault, Words, Reading, earlier, unless, beside}
-use Rattle.case_tables.specs.declared.code_table.Code.{Code}
+use Rattle.unity_syntax.specs.from_case_tables.declared.code_table.Code.{Code}
 use Rattle.names_rules.specs.Part.{Part, before}
 use Rattle.names_rules.specs.Answers.{Stops, Notes, Leaves}
 

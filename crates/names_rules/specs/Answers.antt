@@ -1,6 +1,6 @@
 -- What calls answer: the first fault, or the words that they add to a table and what is known after them.
 use Rattle.std.specs.Prelude.{◌≡◌, ℕ, ◌++◌, Option, Some, None, Bool, true, false, ◌&&◌, Result, Ok, Err}
-use Rattle.case_tables.specs.declared.code_table.Code.{Code}
+use Rattle.unity_syntax.specs.from_case_tables.declared.code_table.Code.{Code}
 use Rattle.names_rules.specs.declared.named.NameFault.{NameFault}
 use Rattle.names_rules.specs.declared.named.Sort.{Sort}
 use Rattle.names_rules.specs.declared.named.Typed.{Typed}

@@ -1,3 +1,4 @@
+pub use Rattle.unity_syntax.specs as from_unity_syntax
 pub mod Scope
 pub mod Reading
 pub mod Part

@@ -6,9 +6,9 @@ use Rattle.std.specs.Map.{lookup}
 use Rattle.std.specs.Str.{bytes_eq}
 use Rattle.std.specs.List.{list_any}
 use Rattle.std.specs.Option.{is_some}
-use Rattle.case_tables.specs.declared.code_table.Code.{Code}
-use Rattle.case_tables.specs.declared.symbol_table.Symbol.{Symbol}
-use Rattle.case_tables.specs.declared.word_table.Word.{Word}
+use Rattle.unity_syntax.specs.from_case_tables.declared.code_table.Code.{Code}
+use Rattle.unity_syntax.specs.from_case_tables.declared.symbol_table.Symbol.{Symbol}
+use Rattle.unity_syntax.specs.from_case_tables.declared.word_table.Word.{Word}
 use Rattle.unity_syntax.specs.declared.name.Name.{Name}
 use Rattle.unity_syntax.specs.declared.name.End.{End}
 use Rattle.unity_syntax.specs.declared.name.Range.{Range}

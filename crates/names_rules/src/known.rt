@@ -10,8 +10,8 @@ ghost use Rattle.names_rules.specs.Scope.{is_variable, is_value, visible, is_vis
 ghost use Rattle.names_rules.specs.Reading.{missing};
 
 use crate::named::{Composed, Meaning, Named, Sort, Span};
-use case_tables::Code;
 use indexmap::IndexMap;
+use unity_syntax::from_case_tables::Code;
 use unity_syntax::{Def, Name};
 
 /// The variables, always names and words of enumerations of the document so far.

@@ -12,3 +12,4 @@ pub use known::{
 };
 pub use named::{Composed, Indices, Meaning, NameFault, Named, Sort, Span, Typed};
 pub use places::place;
+pub use unity_syntax as from_unity_syntax;

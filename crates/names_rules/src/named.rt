@@ -1,8 +1,8 @@
 //! What a word means.
 
-use case_tables::Code;
 use std::alloc::AllocError;
-use unity_base::Seq;
+use unity_syntax::from_case_tables::Code;
+use unity_syntax::from_unity_base::Seq;
 
 /// Why a document is not well named, or not known to be.
 #[derive(Clone, Copy, Debug, PartialEq, Eq)]

@@ -4,7 +4,7 @@ use Rattle.std.proofs.Common.{◌++◌, append_assoc, take, drop, length, slice_
 use Rattle.std.proofs.Common.{◌∙◌}
 use Rattle.std.proofs.lemmas.Int.{ints}
 use Rattle.std.specs.Int.RustNames.{unsigned_abs}
-use Rattle.meaning_states.specs.State.{int_eq}
+use Rattle.core_terms.specs.from_meaning_states.State.{int_eq}
 use Rattle.core_terms.specs.Values.{number_at}
 use Rattle.core_terms.specs.declared.trees.CTerm.{CTerm}
 use Rattle.obligations.specs.declared.branches.Variable.{Variable}

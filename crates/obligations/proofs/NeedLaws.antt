@@ -15,7 +15,7 @@ use Rattle.core_terms.specs.declared.trees.CForm.TheVariants.{AtLeast, Zero, Not
 use Rattle.core_terms.specs.declared.trees.CForm.TheVariants.{rolls-Not, rolls-And, rolls-Or}
 use Rattle.core_terms.specs.declared.trees.CForm.TheOpen.{CTerm-F, CForm-F}
 use Rattle.core_terms.specs.declared.trees.CForm.TheFolds.{map-CForm, map-CTerm}
-use Rattle.meaning_states.specs.Division.{divisor}
+use Rattle.core_terms.specs.from_meaning_states.Division.{divisor}
 use Rattle.obligations.specs.declared.branches.Branch.{Branch}
 use Rattle.obligations.specs.declared.branches.Variable.{Variable}
 use Rattle.obligations.specs.declared.branches.Choice.{Choice}

@@ -9,8 +9,8 @@ use lib.IntN.{zero-*ℤ}
 use Rattle.core_terms.specs.declared.trees.CTerm.{CTerm}
 use Rattle.core_terms.specs.declared.trees.CTerm.TheVariants.{Param, Add, Sub, Scale, Div, Mod}
 use Rattle.core_terms.specs.Values.{number_at}
-use Rattle.meaning_states.specs.Division.{divisor, floored, rest_of}
-use Rattle.meaning_states.proofs.DivisionTheorems.{parts_make_the_number}
+use Rattle.core_terms.specs.from_meaning_states.Division.{divisor, floored, rest_of}
+use Rattle.core_terms.proofs.lemmas_from_meaning_states.DivisionTheorems.{parts_make_the_number}
 use Rattle.core_terms.proofs.QuotientLaws.{rest_of_is, floored_is}
 use Rattle.obligations.specs.declared.branches.Variable.{Variable}
 use Rattle.obligations.specs.declared.branches.Line.{Line}

@@ -17,8 +17,8 @@ use Rattle.core_terms.specs.declared.trees.CForm.TheVariants.{Top, Bottom, AtLea
 use Rattle.core_terms.specs.declared.trees.CForm.TheVariants.{rolls-Bottom, rolls-AtLeast, rolls-Zero, rolls-Not}
 use Rattle.core_terms.specs.declared.trees.CForm.TheVariants.{rolls-And, rolls-Or}
 use Rattle.core_terms.specs.declared.trees.CForm.TheOpen.{CTerm-F, CForm-F}
-use Rattle.meaning_states.specs.Division.{floored, rest_of}
-use Rattle.meaning_states.specs.State.{int_eq}
+use Rattle.core_terms.specs.from_meaning_states.Division.{floored, rest_of}
+use Rattle.core_terms.specs.from_meaning_states.State.{int_eq}
 use Rattle.core_terms.specs.Values.{number_at, form_step}
 use Rattle.obligations.specs.declared.branches.Branch.{Branch}
 use Rattle.obligations.specs.declared.branches.Obligation.{Obligation}

@@ -14,7 +14,7 @@ use Rattle.core_terms.specs.declared.trees.CForm.TheVariants.{AtLeast, Zero}
 use Rattle.core_terms.specs.declared.trees.CForm.TheOpen.{CForm-F}
 use Rattle.core_terms.specs.declared.trees.CForm.TheFolds.{map-CForm}
 use Rattle.core_terms.specs.Values.{number_at, form_step}
-use Rattle.meaning_states.specs.State.{int_eq}
+use Rattle.core_terms.specs.from_meaning_states.State.{int_eq}
 use Rattle.obligations.specs.declared.branches.Variable.{Variable}
 use Rattle.obligations.specs.declared.branches.Fact.{Fact}
 use Rattle.obligations.specs.declared.branches.Branch.{Branch}

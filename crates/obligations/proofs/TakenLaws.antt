@@ -11,7 +11,7 @@ use Rattle.core_terms.specs.declared.trees.CForm.TheVariants.{rolls-Bottom, roll
 use Rattle.core_terms.specs.declared.trees.CForm.TheVariants.{rolls-And, rolls-Or}
 use Rattle.core_terms.specs.declared.trees.CForm.TheOpen.{CTerm-F, CForm-F}
 use Rattle.core_terms.specs.declared.trees.CForm.TheFolds.{map-CForm, map-CTerm}
-use Rattle.meaning_states.specs.Division.{divisor}
+use Rattle.core_terms.specs.from_meaning_states.Division.{divisor}
 use Rattle.obligations.specs.declared.branches.Taken.{Taken}
 use Rattle.obligations.specs.Settling.{Quoted, quoted_form_step, quoted_step, quoted, first_taken, first_of, or_whole}
 use Rattle.obligations.specs.Settling.{taken_within, by_quotient}

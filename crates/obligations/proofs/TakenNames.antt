@@ -12,7 +12,7 @@ use Rattle.core_terms.specs.declared.trees.CForm.{CForm, out-CForm, fold_out-CFo
 use Rattle.core_terms.specs.declared.trees.CForm.TheVariants.{AtLeast, Zero}
 use Rattle.core_terms.specs.declared.trees.CForm.TheOpen.{CTerm-F, CForm-F}
 use Rattle.core_terms.specs.declared.trees.CForm.TheFolds.{map-CForm}
-use Rattle.meaning_states.specs.Division.{divisor}
+use Rattle.core_terms.specs.from_meaning_states.Division.{divisor}
 use Rattle.obligations.specs.declared.branches.Variable.{Variable}
 use Rattle.obligations.specs.declared.branches.Fact.{Fact}
 use Rattle.obligations.specs.declared.branches.Line.{Line}

@@ -1,3 +1,5 @@
+pub use Rattle.core_terms.specs.from_case_tables
+pub use Rattle.core_terms.specs as from_core_terms
 pub mod Variables
 pub mod LinearForms
 pub mod Scopes

@@ -7,7 +7,7 @@ use Rattle.core_terms.specs.declared.trees.CForm.TheOpen.{CTerm-F, CForm-F}
 use Rattle.obligations.specs.declared.branches.Variable.{Variable}
 use Rattle.obligations.specs.declared.branches.Line.{Line}
 use Rattle.obligations.specs.declared.branches.Fact.{Fact}
-use Rattle.meaning_states.specs.State.{int_eq}
+use Rattle.core_terms.specs.from_meaning_states.State.{int_eq}
 use Rattle.core_terms.specs.Values.{number_at}
 
 -- whether a variable is the slot (false) or the parameter (true) of this number

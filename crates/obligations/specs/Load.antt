@@ -5,7 +5,7 @@ use Rattle.std.specs.Int.RustNames.{unsigned_abs}
 use Rattle.core_terms.specs.declared.trees.CTerm.{CTerm, fold-CTerm}
 use Rattle.core_terms.specs.declared.trees.CForm.{CForm, fold-CForm}
 use Rattle.core_terms.specs.declared.trees.CForm.TheOpen.{CTerm-F, CForm-F}
-use Rattle.meaning_states.specs.Division.{divisor}
+use Rattle.core_terms.specs.from_meaning_states.Division.{divisor}
 use Rattle.obligations.specs.declared.branches.Line.{Line}
 use Rattle.obligations.specs.declared.branches.Branch.{Branch}
 

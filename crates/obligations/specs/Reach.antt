@@ -7,7 +7,7 @@ use Rattle.std.specs.Int.{int_div_euclid}
 use Rattle.std.specs.Int.RustNames.{int_le, unsigned_abs}
 use Rattle.obligations.specs.declared.branches.Fact.{Fact}
 use Rattle.obligations.specs.declared.branches.Bound.{Bound}
-use Rattle.meaning_states.specs.State.{int_eq}
+use Rattle.core_terms.specs.from_meaning_states.State.{int_eq}
 
 -- the factors' places rise, from this place on, and no factor is 0
 abbrev pub is_exact : ℕ → List (ℕ × ℤ) → Bool

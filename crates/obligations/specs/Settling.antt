@@ -17,7 +17,7 @@ use Rattle.obligations.specs.declared.branches.Obligation.{Obligation}
 use Rattle.core_terms.specs.declared.known.Dividing.{Dividing}
 use Rattle.core_terms.specs.declared.known.Sense.{Sense}
 use Rattle.core_terms.specs.Senses.{sense_node}
-use Rattle.meaning_states.specs.Division.{divisor, floored, rest_of}
+use Rattle.core_terms.specs.from_meaning_states.Division.{divisor, floored, rest_of}
 use Rattle.core_terms.specs.Values.{number_at, form_step}
 use Rattle.obligations.specs.LinearForms.{place_of, line_of_const, negated, linear, fact_of, fact_holds}
 use Rattle.obligations.specs.Scopes.{scope_of}

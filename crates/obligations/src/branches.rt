@@ -1,8 +1,8 @@
 // Obligations, and branches: facts that are linear in the variables, and formulas that wait to be taken
 // apart.
 use crate::factors::Factors;
+use core_terms::from_unity_base::{Seq, Shared};
 use core_terms::{CForm, CTerm, Range};
-use unity_base::{Seq, Shared};
 
 /// A slot or a parameter that occurs in an obligation, with the values that it may have.
 #[derive(Clone, Copy, Debug, PartialEq, Eq)]

@@ -2,7 +2,7 @@
 ghost use Rattle.std.specs.Prelude.{◌≡◌, ◌+◌, ◌-◌, ◌^◌, min, length};
 ghost use Rattle.obligations.specs.Certificates.{node_units, units};
 
-use unity_base::Seq;
+use core_terms::from_unity_base::Seq;
 
 /// A step of a certificate. Facts, waiting formulas and variables are numbered from 1.
 #[derive(Drop)]

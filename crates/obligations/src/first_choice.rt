@@ -8,10 +8,10 @@ ghost use Rattle.core_terms.specs.Senses.{pair_node, divided_node};
 
 use crate::branches::Choice;
 use crate::pairing::{divided_term, pair_term};
+use core_terms::from_unity_base::{Held, Shared};
 use core_terms::{CForm, CTerm, Dividing, Pairing};
 use std::alloc::{AllocError, Global};
 use std::mem;
-use unity_base::{Held, Shared};
 
 /// The choice at an `Ite`.
 #[inline(never)]

@@ -3,16 +3,16 @@
 ghost use Rattle.std.specs.Prelude.{◌≡◌, IfOk, OnOk, Some, None};
 ghost use Rattle.std.specs.Option.{option_map};
 ghost use Rattle.core_terms.specs.declared.trees.CTerm.TheVariants.{Scale};
-ghost use Rattle.meaning_states.specs.Division as division;
+ghost use Rattle.core_terms.specs.from_meaning_states.Division as division;
 ghost use Rattle.obligations.specs.Settling.{has_quotient, taken_within, first_taken, or_whole, by_quotient};
 ghost use Rattle.core_terms.specs.Senses.{pair_node, divided_node};
 
 use crate::branches::Taken;
 use crate::pairing::{divided_term, pair_term};
+use core_terms::from_unity_base::{Held, Shared};
 use core_terms::{CTerm, Dividing, Pairing};
 use std::alloc::{AllocError, Global};
 use std::mem;
-use unity_base::{Held, Shared};
 
 /// Whether a term has a quotient outside of its `Ite`s.
 pub fn has_quotient(t: &CTerm) -> bool

@@ -23,6 +23,8 @@ mod waiting;
 
 pub use branches::{Bound, Branch, Choice, Fact, Line, Obligation, Replaced, Taken, Variable};
 pub use certificates::{Cert, Node, units};
+pub use core_terms as from_core_terms;
+pub use core_terms::{from_case_tables, from_unity_base};
 pub use factors::Factors;
 pub use laws::{obligation_laws, settling_laws};
 pub use linear::{fact_from, factor_at, zero_line};

@@ -38,8 +38,8 @@ use crate::branches::{Fact, Line, Variable};
 use crate::factors::Factors;
 use crate::small::small_product;
 use core_terms::CTerm;
+use core_terms::from_unity_base::Seq;
 use std::alloc::{AllocError, Global};
-use unity_base::Seq;
 
 /// Whether a variable stands before the slot or the parameter of this number.
 fn is_lower(v: &Variable, param: bool, number: u32) -> bool

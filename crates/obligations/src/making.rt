@@ -35,9 +35,9 @@ use crate::branches::Obligation;
 use crate::occurrence::add_occurring;
 use crate::scopes::next_param;
 use crate::shapes::capped_height;
+use core_terms::from_unity_base::Seq;
 use core_terms::{CForm, CSlot, FormId, Pool, Range, size_within, weight_of};
 use std::alloc::{AllocError, Global};
-use unity_base::Seq;
 
 /// Why there is no obligation.
 #[derive(Clone, Copy, Debug, PartialEq, Eq)]

@@ -3,9 +3,9 @@ ghost use Rattle.std.specs.Prelude.{◌≡◌, ◌++◌, ◌∷◌, [], nat_eq, 
 ghost use Rattle.obligations.specs.Variables.{term_has, form_has, numbered, occurring, no_marks, marked, picked};
 
 use crate::branches::Variable;
+use core_terms::from_unity_base::Seq;
 use core_terms::{CForm, CTerm, Range};
 use std::alloc::{AllocError, Global};
-use unity_base::Seq;
 
 /// A list without a mark, for each range.
 #[tactic(auto, using(crate::proofs::OccurrenceLaws::no_marks_laws))]

@@ -7,8 +7,8 @@ ghost use Rattle.obligations.specs.Obligations.{AreVariables};
 use crate::branches::{Branch, Fact, Obligation, Variable};
 use crate::factors::Factors;
 use crate::settling::refuse_onto;
+use core_terms::from_unity_base::Seq;
 use std::alloc::{AllocError, Global};
-use unity_base::Seq;
 
 /// So many facts have room behind those of the ranges when a branch begins: most certificates add no more.
 const ROOM_FOR_FACTS: usize = 64;

@@ -2,8 +2,8 @@
 ghost use Rattle.std.specs.Prelude.{◌≡◌};
 ghost use Rattle.core_terms.specs.Senses.{pair_node, divided_node};
 
+use core_terms::from_unity_base::Shared;
 use core_terms::{CTerm, Dividing, Pairing};
-use unity_base::Shared;
 
 /// The sum or the difference of two terms.
 pub fn pair_term(which: Pairing, a: Shared<CTerm>, b: Shared<CTerm>) -> CTerm

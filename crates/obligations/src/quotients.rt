@@ -13,9 +13,9 @@ use crate::first_quotient::find_quotient;
 use crate::linear::{fact_from, line_of, negative_of};
 use crate::scopes::next_variable;
 use crate::settling::{add_fact, settle_onto};
+use core_terms::from_unity_base::{Held, Seq};
 use core_terms::{CForm, owned_term};
 use std::alloc::{AllocError, Global};
-use unity_base::{Held, Seq};
 
 /// Whether a formula is an `Or`.
 pub fn is_either(form: &CForm) -> bool

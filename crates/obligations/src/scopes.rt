@@ -6,8 +6,8 @@ ghost use Rattle.obligations.specs.Obligations.{AreOwn, AreVariables, IsObligati
 
 use crate::branches::{Obligation, Variable};
 use core_terms::Range;
+use core_terms::from_unity_base::Seq;
 use std::alloc::{AllocError, Global};
-use unity_base::Seq;
 
 /// One more than a parameter's number, and 0 for a slot.
 fn past(v: &Variable) -> u64

@@ -16,9 +16,9 @@ use crate::first_quotient::has_quotient;
 use crate::linear::{fact_from, line_of, negative_of};
 use crate::scopes::scope_of;
 use crate::waiting::{apart, below, form_of, negation_of, sense_choice, unequal_choice};
+use core_terms::from_unity_base::{Held, Shared};
 use core_terms::{CForm, CTerm, Sense, copy_term};
 use std::alloc::{AllocError, Global};
-use unity_base::{Held, Shared};
 
 /// Adds a fact.
 pub fn add_fact(fact: Fact, branch: &mut Branch) -> Result<(), AllocError>

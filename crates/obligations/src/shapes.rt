@@ -8,8 +8,8 @@ ghost use Rattle.obligations.specs.Plain.{need_of};
 ghost use Rattle.obligations.specs.Obligations.{IsObligation};
 
 use crate::branches::{Obligation, Variable};
+use core_terms::from_unity_base::Shared;
 use core_terms::{CForm, CTerm, Range};
-use unity_base::Shared;
 
 /// The number at which numbers of leaves and units stop.
 const MANY: u128 = 1 << 127;

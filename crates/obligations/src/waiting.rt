@@ -6,9 +6,9 @@ ghost use Rattle.core_terms.specs.Senses.{sense_node};
 ghost use Rattle.obligations.specs.Settling.{below_zero, choice_form};
 
 use crate::branches::Choice;
+use core_terms::from_unity_base::{Held, Shared};
 use core_terms::{CForm, CTerm, Sense, held_term, owned_term};
 use std::alloc::{AllocError, Global};
-use unity_base::{Held, Shared};
 
 /// That a formula does not hold.
 pub fn negation_of(alloc: Global, f: &Shared<CForm>) -> Result<Shared<CForm>, AllocError>

@@ -6,4 +6,5 @@ mod nodes;
 mod programs;
 mod statements;
 
+pub use parser_expressions as from_parser_expressions;
 pub use programs::program;

@@ -29,7 +29,7 @@ use Rattle.expand_rules.specs.Assigning.{outside_effect, target_effect, index_fo
 use Rattle.expand_rules.specs.Assigning.{alternative_effect, all_beside, Effecting, component_layer, assign_layer}
 use Rattle.expand_rules.specs.Assigning.{effect_of, exactly, write_count, spread_count}
 use Rattle.rules_table.proofs.EachLaws.{Each, each_join}
-use Rattle.rules_steps.proofs.ItemLaws.{to_all}
+use Rattle.proof_script.proofs.lemmas_from_rules_steps.ItemLaws.{to_all}
 use Rattle.plain_quotients.specs.Plain.{FormIsPlain, TermIsPlain, WriteIsPlain}
 use Rattle.plain_quotients.specs.Sources.{has_only_times, only_times_or_none, target_times, alternative_times}
 use Rattle.plain_quotients.specs.Sources.{component_times, assign_times}

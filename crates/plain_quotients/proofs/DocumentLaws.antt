@@ -39,16 +39,19 @@ use Rattle.expand_rules.specs.declared.cores.Formed.{Formed}
 use Rattle.expand_rules.specs.Forming.{Scope, formed}
 use Rattle.expand_rules.specs.Assigning.{among, stated}
 use Rattle.expand_rules.specs.Programs.{core_statement, initial_form}
-use Rattle.expand_steps.specs.Elements.{form_in, term_in}
-use Rattle.expand_steps.specs.ProofTerms.{Place, Terming, fixed_ends, ref_in, term_layer, termed, with_bound_name}
-use Rattle.expand_steps.specs.Steps.{claim_p, claim_q, core_rule, core_step, step_place}
-use Rattle.expand_documents.specs.AlwaysNames.{with_definition, with_definitions}
-use Rattle.expand_documents.specs.Cores.{core_named, core_program, core_proofs, core_union, declared_scope}
-use Rattle.expand_documents.specs.Cores.{document_scope, part_definitions, with_core, with_cores}
-use Rattle.expand_fits_parts.proofs.Forms.TermParts.{parts-Imply, parts-From, parts-Exists, parts-Induct, parts-Psp}
-use Rattle.expand_fits_parts.proofs.Forms.TermParts.{parts-Weaken, pair_parts}
+use Rattle.upgraded_texts.specs.from_expand_steps.Elements.{form_in, term_in}
+use Rattle.upgraded_texts.specs.from_expand_steps.ProofTerms.{Place, Terming, fixed_ends, ref_in, term_layer, termed}
+use Rattle.upgraded_texts.specs.from_expand_steps.ProofTerms.{with_bound_name}
+use Rattle.upgraded_texts.specs.from_expand_steps.Steps.{claim_p, claim_q, core_rule, core_step, step_place}
+use Rattle.upgraded_texts.specs.from_expand_documents.AlwaysNames.{with_definition, with_definitions}
+use Rattle.upgraded_texts.specs.from_expand_documents.Cores.{core_named, core_program, core_proofs, core_union}
+use Rattle.upgraded_texts.specs.from_expand_documents.Cores.{declared_scope}
+use Rattle.upgraded_texts.specs.from_expand_documents.Cores.{document_scope, part_definitions, with_core, with_cores}
+use Rattle.upgraded_texts.proofs.lemmas_from_expand_fits_parts.Forms.TermParts.{parts-Imply, parts-From, parts-Exists}
+use Rattle.upgraded_texts.proofs.lemmas_from_expand_fits_parts.Forms.TermParts.{parts-Induct, parts-Psp}
+use Rattle.upgraded_texts.proofs.lemmas_from_expand_fits_parts.Forms.TermParts.{parts-Weaken, pair_parts}
 use Rattle.rules_table.proofs.EachLaws.{Each, each_at, each_join, found_in, from_all}
-use Rattle.rules_steps.proofs.ItemLaws.{to_all}
+use Rattle.proof_script.proofs.lemmas_from_rules_steps.ItemLaws.{to_all}
 use Rattle.plain_quotients.specs.Plain.{FormIsPlain, TermIsPlain, StatementIsPlain, ProgramIsPlain, RuleIsPlain}
 use Rattle.plain_quotients.specs.Plain.{StepIsPlain}
 use Rattle.plain_quotients.specs.Sources.{has_only_times, assigns_only_times, term_times, claim_times, rule_times}

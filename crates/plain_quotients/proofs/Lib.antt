@@ -1,3 +1,4 @@
+pub use Rattle.upgraded_texts.proofs as lemmas_from_upgraded_texts
 pub mod FormLaws
 pub mod StatementLaws
 pub mod TermLaws

@@ -1,5 +1,5 @@
 -- The steps of a document without `div` and `mod`, as one of version 1 is, leave no obligation with a quotient.
-use Rattle.expand_documents.specs.Cores.{core_document}
+use Rattle.upgraded_texts.specs.from_expand_documents.Cores.{core_document}
 use Rattle.plain_quotients.specs.Laws.{EarlierLeaveNone, FirstLeaveNone, OnlyTimesLeaveNone}
 use Rattle.plain_quotients.proofs.DocumentLaws.{documents_plain}
 use Rattle.plain_quotients.proofs.VersionLaws.{earlier_has_only_times, first_has_only_times}

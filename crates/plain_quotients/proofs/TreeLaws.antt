@@ -48,9 +48,9 @@ use Rattle.meaning_documents.specs.Value.{range_values}
 use Rattle.meaning_documents.specs.Setting.{items_of, programs_among}
 use Rattle.meaning_documents.specs.Steps.{proofs_among}
 use Rattle.meaning_documents.specs.Writes.{alternatives, conditional}
-use Rattle.expand_documents.specs.Cores.{part_definitions}
+use Rattle.upgraded_texts.specs.from_expand_documents.Cores.{part_definitions}
 use Rattle.rules_table.proofs.EachLaws.{Each, each_join}
-use Rattle.rules_steps.proofs.ItemLaws.{to_all}
+use Rattle.proof_script.proofs.lemmas_from_rules_steps.ItemLaws.{to_all}
 use Rattle.plain_quotients.specs.Sources.{HasOnlyTimes, ProgramOnlyTimes, alternative_times, assign_times}
 use Rattle.plain_quotients.specs.Sources.{assigns_only_times, claim_times, component_times, has_only_times, is_times}
 use Rattle.plain_quotients.specs.Sources.{initially_times, only_times_or_none, rule_times, step_times, target_times}

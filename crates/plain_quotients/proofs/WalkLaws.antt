@@ -18,16 +18,18 @@ use Rattle.rules_table.specs.Walk.{Around, applied, claims, has_defined, is_empt
 use Rattle.rules_table.specs.Walk.{step_site, suits, used}
 use Rattle.rules_table.proofs.EachLaws.{Each, each_at, each_join, found_in, from_all}
 use Rattle.rules_table.proofs.SiteLaws.{met, went_on}
-use Rattle.safety_rules.specs.Answers.{obligations_of}
-use Rattle.rules_steps.specs.Starts.{document_seen}
-use Rattle.rules_steps.proofs.ItemLaws.{to_all}
-use Rattle.proof_plans.specs.declared.plans.Plan.{Plan}
+use Rattle.proof_script.specs.from_safety_rules.Answers.{obligations_of}
+use Rattle.proof_script.specs.from_rules_steps.Starts.{document_seen}
+use Rattle.proof_script.proofs.lemmas_from_rules_steps.ItemLaws.{to_all}
+use Rattle.proof_script.specs.from_proof_plans.declared.plans.Plan.{Plan}
 use Rattle.proof_script.specs.Proving.{IsWithoutQuotient}
-use Rattle.proof_plans.specs.Reaching.{Reach, by_row, end_reach, further, proof_reach, proofs_reach, reach_of, reached}
-use Rattle.proof_plans.specs.Reaching.{step_reach, steps_reach}
-use Rattle.proof_plans.specs.Verdicts.{no_plan}
-use Rattle.proof_plans.proofs.ReachLaws.{ended, proofs_reach-more, proofs_reach-none, reach-is, reaches-more}
-use Rattle.proof_plans.proofs.ReachLaws.{reaches-none}
+use Rattle.proof_script.specs.from_proof_plans.Reaching.{Reach, by_row, end_reach, further, proof_reach, proofs_reach}
+use Rattle.proof_script.specs.from_proof_plans.Reaching.{reach_of, reached}
+use Rattle.proof_script.specs.from_proof_plans.Reaching.{step_reach, steps_reach}
+use Rattle.proof_script.specs.from_proof_plans.Verdicts.{no_plan}
+use Rattle.proof_script.proofs.lemmas_from_proof_plans.ReachLaws.{ended, proofs_reach-more, proofs_reach-none, reach-is}
+use Rattle.proof_script.proofs.lemmas_from_proof_plans.ReachLaws.{reaches-more}
+use Rattle.proof_script.proofs.lemmas_from_proof_plans.ReachLaws.{reaches-none}
 use Rattle.plain_quotients.specs.Plain.{FormIsPlain, ProgramIsPlain, StepIsPlain}
 use Rattle.plain_quotients.specs.Laws.{PlainLeaveNone}
 use Rattle.plain_quotients.proofs.TermLaws.{RecordIsPlain, found_plain}

@@ -2,9 +2,9 @@
 use Rattle.std.specs.Prelude.{◌≡◌, ℕ, false, List}
 use Rattle.unity_syntax.specs.declared.document.Document.{Document}
 use Rattle.unity_syntax.specs.Classes.{says_later}
-use Rattle.unity_parser.specs.Document.{IsDocument}
+use Rattle.upgraded_texts.specs.from_unity_parser.Document.{IsDocument}
 use Rattle.core_terms.specs.declared.documents.CDocument.{CDocument}
-use Rattle.expand_documents.specs.Cores.{core_document}
+use Rattle.upgraded_texts.specs.from_expand_documents.Cores.{core_document}
 use Rattle.proof_script.specs.Proving.{HasNoQuotients}
 use Rattle.plain_quotients.specs.Plain.{DocumentIsPlain}
 use Rattle.plain_quotients.specs.Sources.{HasOnlyTimes}

@@ -26,7 +26,7 @@ use Rattle.expand_rules.specs.declared.cores.Formed.{Formed}
 use Rattle.expand_rules.specs.declared.effects.Effect.{Effect}
 use Rattle.expand_rules.specs.Forming.{Scope, formed}
 use Rattle.expand_rules.specs.Assigning.{effect_of}
-use Rattle.expand_documents.specs.Cores.{core_document, part_definitions}
+use Rattle.upgraded_texts.specs.from_expand_documents.Cores.{core_document, part_definitions}
 use Rattle.plain_quotients.specs.Plain.{FormIsPlain, TermIsPlain, WriteIsPlain, DocumentIsPlain}
 
 -- sources

@@ -20,14 +20,15 @@ use Rattle.certificate_rules.specs.Refutation.{walk_from_root}
 use Rattle.certificate_rules.specs.Trees.{is_whole}
 use Rattle.certificate_rules.proofs.WholeLaws.{walked-refutes, refutes-walked}
 use Rattle.fair_rounds.specs.declared.records.Record.{Record}
-use Rattle.rules_table.specs.Conclusion.{Conclusion}
-use Rattle.rules_table.specs.Validity.{Goal, goal_obligation}
-use Rattle.rules_table.specs.Table.{needs}
-use Rattle.rules_table.specs.Walk as walk
-use Rattle.rules_table.specs.Walk.{Around, Failure, has_defined, or_failure, further, rule_of, planned, steps_of}
-use Rattle.rules_table.specs.Walk.{proof_end}
-use Rattle.rules_table.specs.Walk.{program_of, proof_steps, proofs_of}
-use Rattle.rules_table.proofs.SiteLaws.{met}
+use Rattle.safety_rules.specs.from_rules_table.Conclusion.{Conclusion}
+use Rattle.safety_rules.specs.from_rules_table.Validity.{Goal, goal_obligation}
+use Rattle.safety_rules.specs.from_rules_table.Table.{needs}
+use Rattle.safety_rules.specs.from_rules_table.Walk as walk
+use Rattle.safety_rules.specs.from_rules_table.Walk.{Around, Failure, has_defined, or_failure, further, rule_of}
+use Rattle.safety_rules.specs.from_rules_table.Walk.{planned, steps_of}
+use Rattle.safety_rules.specs.from_rules_table.Walk.{proof_end}
+use Rattle.safety_rules.specs.from_rules_table.Walk.{program_of, proof_steps, proofs_of}
+use Rattle.safety_rules.proofs.lemmas_from_rules_table.SiteLaws.{met}
 use Rattle.safety_rules.specs.Answers.{obligations_of}
 use Rattle.rules_steps.specs.Starts.{document_seen}
 use Rattle.proof_plans.specs.declared.plans.Plan.{Plan}

@@ -1,3 +1,5 @@
+pub use Rattle.rules_steps.proofs as lemmas_from_rules_steps
+pub use Rattle.safety_rules.proofs.lemmas_from_rules_table
 pub mod BookLaws
 pub mod Equations
 pub mod FollowLaws

@@ -12,9 +12,9 @@ use Rattle.core_terms.specs.declared.documents.CProof.{CProof}
 use Rattle.core_terms.specs.declared.documents.CDocument.{CDocument}
 use Rattle.core_terms.specs.Conditions.{IsProgram, IsProof, IsCoreDocument}
 use Rattle.obligations.specs.declared.certificates.Cert.{Cert}
-use Rattle.rules_table.proofs.EachLaws.{from_all, each_at, found_in}
-use Rattle.rules_table.specs.Table.{needs}
-use Rattle.rules_table.specs.Walk.{Around, program_of}
+use Rattle.safety_rules.proofs.lemmas_from_rules_table.EachLaws.{from_all, each_at, found_in}
+use Rattle.safety_rules.specs.from_rules_table.Table.{needs}
+use Rattle.safety_rules.specs.from_rules_table.Walk.{Around, program_of}
 use Rattle.proof_plans.specs.declared.plans.Plan.{Plan}
 use Rattle.proof_plans.specs.declared.plans.StepFault.{StepFault}
 use Rattle.proof_plans.specs.declared.plans.ScriptError.{ScriptError}

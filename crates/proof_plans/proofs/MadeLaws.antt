@@ -10,8 +10,8 @@ use Rattle.core_terms.specs.declared.documents.CDocument.{CDocument}
 use Rattle.core_terms.specs.Conditions.{IsCoreDocument, IsProgram, IsProof, IsSlot, IsStep}
 use Rattle.obligations.specs.declared.certificates.Cert.{Cert}
 use Rattle.obligations.specs.Obligations.{IsObligation}
-use Rattle.rules_table.specs.Walk.{Around, has_defined, program_of}
-use Rattle.rules_table.proofs.EachLaws.{Each, each_join}
+use Rattle.safety_rules.specs.from_rules_table.Walk.{Around, has_defined, program_of}
+use Rattle.safety_rules.proofs.lemmas_from_rules_table.EachLaws.{Each, each_join}
 use Rattle.safety_rules.specs.Answers.{derived_of}
 use Rattle.rules_steps.specs.Starts.{document_seen}
 use Rattle.rules_steps.specs.Using.{BookFits}

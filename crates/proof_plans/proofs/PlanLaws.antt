@@ -2,8 +2,8 @@
 use Rattle.std.proofs.Common.{◌≡◌, Option, Some, None, Result, Ok, Err, sym, ap, ◌∙◌, refl, List}
 use Rattle.core_terms.specs.declared.documents.CDocument.{CDocument}
 use Rattle.core_terms.specs.declared.programs.CSlot.{CSlot}
-use Rattle.rules_table.specs.Walk as walk
-use Rattle.rules_table.specs.Walk.{Failure, walk_of}
+use Rattle.safety_rules.specs.from_rules_table.Walk as walk
+use Rattle.safety_rules.specs.from_rules_table.Walk.{Failure, walk_of}
 use Rattle.rules_steps.specs.Starts.{starts_in}
 use Rattle.proof_plans.specs.declared.plans.Plan.{Plan}
 use Rattle.proof_plans.specs.declared.plans.StepFault.{StepFault}

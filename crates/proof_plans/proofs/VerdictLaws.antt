@@ -14,17 +14,18 @@ use Rattle.obligations.specs.declared.certificates.Cert.{Cert}
 use Rattle.obligations.specs.Obligations.{IsObligation}
 use Rattle.certificate_rules.specs.Refutation.{WalkResult, walk_from_root}
 use Rattle.certificate_rules.proofs.SoundLaws.{sound}
-use Rattle.rules_table.specs.Conclusion.{Conclusion}
-use Rattle.rules_table.specs.Validity.{Goal, goal_obligation, AllValid}
-use Rattle.rules_table.specs.Table.{needs}
-use Rattle.rules_table.specs.Walk as walk
-use Rattle.rules_table.specs.Walk.{Around, Failure, has_defined, or_failure, further, rule_of, planned, steps_of}
-use Rattle.rules_table.specs.Walk.{proof_end}
-use Rattle.rules_table.specs.Walk.{program_of, proof_steps, proofs_of}
-use Rattle.rules_table.proofs.EachLaws.{Each}
-use Rattle.rules_table.proofs.GoalLaws.{goal_shown}
-use Rattle.rules_table.proofs.SiteLaws.{met}
-use Rattle.rules_table.proofs.WalkTheorems.{walk_sound}
+use Rattle.safety_rules.specs.from_rules_table.Conclusion.{Conclusion}
+use Rattle.safety_rules.specs.from_rules_table.Validity.{Goal, goal_obligation, AllValid}
+use Rattle.safety_rules.specs.from_rules_table.Table.{needs}
+use Rattle.safety_rules.specs.from_rules_table.Walk as walk
+use Rattle.safety_rules.specs.from_rules_table.Walk.{Around, Failure, has_defined, or_failure, further, rule_of}
+use Rattle.safety_rules.specs.from_rules_table.Walk.{planned, steps_of}
+use Rattle.safety_rules.specs.from_rules_table.Walk.{proof_end}
+use Rattle.safety_rules.specs.from_rules_table.Walk.{program_of, proof_steps, proofs_of}
+use Rattle.safety_rules.proofs.lemmas_from_rules_table.EachLaws.{Each}
+use Rattle.safety_rules.proofs.lemmas_from_rules_table.GoalLaws.{goal_shown}
+use Rattle.safety_rules.proofs.lemmas_from_rules_table.SiteLaws.{met}
+use Rattle.safety_rules.proofs.lemmas_from_rules_table.WalkTheorems.{walk_sound}
 use Rattle.safety_rules.specs.Answers.{obligations_of, derived_of}
 use Rattle.proof_plans.specs.declared.plans.Plan.{Plan}
 use Rattle.proof_plans.specs.Laws.{plan_of, AcceptedIsValid, AcceptedHolds}

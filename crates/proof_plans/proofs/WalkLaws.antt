@@ -6,12 +6,13 @@ use Rattle.case_tables.specs.declared.code_table.Code.{Code}
 use Rattle.core_terms.specs.declared.programs.CProgram.{CProgram}
 use Rattle.core_terms.specs.declared.documents.CStep.{CStep}
 use Rattle.core_terms.specs.declared.documents.CProof.{CProof}
-use Rattle.rules_table.specs.Conclusion.{Conclusion}
-use Rattle.rules_table.specs.Table.{needs}
-use Rattle.rules_table.specs.Walk as walk
-use Rattle.rules_table.specs.Walk.{Around, Failure, has_defined, or_failure, rule_of, planned, steps_of, proof_end}
-use Rattle.rules_table.specs.Walk.{program_of}
-use Rattle.rules_table.specs.Walk.{proof_steps, proofs_of}
+use Rattle.safety_rules.specs.from_rules_table.Conclusion.{Conclusion}
+use Rattle.safety_rules.specs.from_rules_table.Table.{needs}
+use Rattle.safety_rules.specs.from_rules_table.Walk as walk
+use Rattle.safety_rules.specs.from_rules_table.Walk.{Around, Failure, has_defined, or_failure, rule_of, planned}
+use Rattle.safety_rules.specs.from_rules_table.Walk.{steps_of, proof_end}
+use Rattle.safety_rules.specs.from_rules_table.Walk.{program_of}
+use Rattle.safety_rules.specs.from_rules_table.Walk.{proof_steps, proofs_of}
 use Rattle.proof_plans.specs.declared.plans.Plan.{Plan}
 use Rattle.proof_plans.specs.Laws.{ReachAgrees, ReachIsWalk, plan_of}
 use Rattle.proof_plans.specs.Reaching.{Reach, further, by_row, steps_reach, end_reach, proof_reach}

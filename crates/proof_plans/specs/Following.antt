@@ -11,9 +11,9 @@ use Rattle.core_terms.specs.Conditions.{IsCoreDocument}
 use Rattle.obligations.specs.declared.certificates.Cert.{Cert}
 use Rattle.certificate_rules.specs.Trees.{Refuted}
 use Rattle.fair_rounds.specs.declared.records.Record.{Record}
-use Rattle.rules_table.specs.Validity.{Goal, goal_obligation}
-use Rattle.rules_table.specs.Conclusion.{Conclusion}
-use Rattle.rules_table.specs.Walk.{Around, has_defined, program_of, rule_of}
+use Rattle.safety_rules.specs.from_rules_table.Validity.{Goal, goal_obligation}
+use Rattle.safety_rules.specs.from_rules_table.Conclusion.{Conclusion}
+use Rattle.safety_rules.specs.from_rules_table.Walk.{Around, has_defined, program_of, rule_of}
 use Rattle.rules_steps.specs.Starts.{document_seen}
 use Rattle.proof_plans.specs.declared.plans.Plan.{Plan}
 use Rattle.proof_plans.specs.Giving.{AreWhole}

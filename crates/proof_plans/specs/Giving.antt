@@ -6,7 +6,7 @@ use Rattle.obligations.specs.declared.certificates.Cert.{Cert}
 use Rattle.certificate_rules.specs.Trees.{is_whole}
 use Rattle.fair_rounds.specs.declared.records.Record.{Record}
 use Rattle.fair_rounds.specs.Records.{Holds}
-use Rattle.rules_table.specs.Walk.{program_of}
+use Rattle.safety_rules.specs.from_rules_table.Walk.{program_of}
 use Rattle.proof_plans.specs.declared.plans.Plan.{Plan}
 use Rattle.proof_plans.specs.declared.plans.StepFault.{StepFault}
 use Rattle.proof_plans.specs.declared.plans.ScriptError.{ScriptError}

@@ -4,9 +4,9 @@ use Rattle.core_terms.specs.declared.programs.CSlot.{CSlot}
 use Rattle.core_terms.specs.declared.documents.CDocument.{CDocument}
 use Rattle.core_terms.specs.Conditions.{IsCoreDocument}
 use Rattle.obligations.specs.declared.certificates.Cert.{Cert}
-use Rattle.rules_table.specs.Validity.{AllValid}
-use Rattle.rules_table.specs.Walk as walk
-use Rattle.rules_table.specs.Walk.{Failure, walk_of}
+use Rattle.safety_rules.specs.from_rules_table.Validity.{AllValid}
+use Rattle.safety_rules.specs.from_rules_table.Walk as walk
+use Rattle.safety_rules.specs.from_rules_table.Walk.{Failure, walk_of}
 use Rattle.safety_rules.specs.Answers.{obligations_of}
 use Rattle.proof_plans.specs.declared.plans.Plan.{Plan}
 use Rattle.proof_plans.specs.Giving.{PlanHolds}

@@ -1,8 +1,8 @@
 -- What calls that take steps by their rules alone answer; want of memory says nothing.
 use Rattle.std.specs.Prelude.{◌≡◌, List, Option, Some, None, Result, Ok, Err}
 use Rattle.core_terms.specs.declared.programs.CSlot.{CSlot}
-use Rattle.rules_table.specs.Walk as walk
-use Rattle.rules_table.specs.Walk.{Failure}
+use Rattle.safety_rules.specs.from_rules_table.Walk as walk
+use Rattle.safety_rules.specs.from_rules_table.Walk.{Failure}
 use Rattle.proof_plans.specs.declared.plans.Plan.{Plan}
 use Rattle.proof_plans.specs.declared.plans.StepFault.{StepFault}
 use Rattle.proof_plans.specs.declared.plans.ScriptError.{ScriptError}

@@ -10,8 +10,8 @@ use Rattle.core_terms.specs.declared.documents.CDocument.{CDocument}
 use Rattle.obligations.specs.declared.branches.Obligation.{Obligation}
 use Rattle.obligations.specs.declared.certificates.Cert.{Cert}
 use Rattle.certificate_rules.specs.Refutation.{WalkResult, walk_from_root}
-use Rattle.rules_table.specs.Table.{needs}
-use Rattle.rules_table.specs.Walk.{Around, has_defined, program_of, rule_of}
+use Rattle.safety_rules.specs.from_rules_table.Table.{needs}
+use Rattle.safety_rules.specs.from_rules_table.Walk.{Around, has_defined, program_of, rule_of}
 use Rattle.safety_rules.specs.declared.places.Derived.{Derived}
 use Rattle.safety_rules.specs.Answers.{derived_of}
 use Rattle.rules_steps.specs.Starts.{document_seen}

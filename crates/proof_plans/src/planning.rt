@@ -2,7 +2,7 @@
 ghost use Rattle.std.specs.Prelude.{◌+◌, ◌≡◌, ◌<◌, ◌^◌, All, IfOk, length, map, sum, Some};
 ghost use Rattle.core_terms.specs.Conditions.{IsCoreDocument, IsProgram, IsProof, IsStep};
 ghost use Rattle.core_terms.specs.declared.documents.CProof.{CProof};
-ghost use Rattle.rules_table.specs.Walk.{program_of, walk_of};
+ghost use Rattle.safety_rules.specs.from_rules_table.Walk.{program_of, walk_of};
 ghost use Rattle.proof_plans.specs.Planning.{Reaches, Walks, reach_from};
 ghost use Rattle.proof_plans.specs.Reaching.{proof_reach, proofs_reach, reach_of, step_reach, steps_reach};
 ghost use Rattle.proof_plans.specs.Verdicts.{rule_fault};

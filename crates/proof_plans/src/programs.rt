@@ -3,7 +3,7 @@ ghost use Rattle.std.specs.Prelude.{◌≡◌};
 ghost use Rattle.std.specs.Option.{option_copied};
 ghost use Rattle.core_terms.specs.Conditions.{IsCoreDocument};
 ghost use Rattle.rules_steps.specs.Starts.{IsAround, document_seen, seen_of};
-ghost use Rattle.rules_table.specs.Walk.{program_of};
+ghost use Rattle.safety_rules.specs.from_rules_table.Walk.{program_of};
 
 use core_terms::{CDocument, CProgram};
 use rules_steps::Around;

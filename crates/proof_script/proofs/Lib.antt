@@ -1,3 +1,5 @@
+pub use Rattle.proof_plans.proofs as lemmas_from_proof_plans
+pub use Rattle.proof_plans.proofs.lemmas_from_rules_steps
 pub mod BudgetLaws
 pub mod SearchLaws
 pub mod SomeLaws

@@ -18,9 +18,9 @@ use Rattle.obligations.specs.Plain.{enough}
 use Rattle.certificate_rules.specs.Trees.{is_whole}
 use Rattle.certificate_rules.proofs.SoundLaws.{sound}
 use Rattle.certificate_rules.proofs.WholeLaws.{more-levels}
-use Rattle.linear_prover.specs.Chains.{is_plain_node}
-use Rattle.search_tree.specs.Searching.{Proof, Counterexample, Partial, is_found_node}
-use Rattle.rules_table.proofs.EachLaws.{Each, each_parts, from_all}
+use Rattle.proof_search.specs.from_linear_prover.Chains.{is_plain_node}
+use Rattle.proof_search.specs.from_search_tree.Searching.{Proof, Counterexample, Partial, is_found_node}
+use Rattle.proof_plans.proofs.lemmas_from_rules_table.EachLaws.{Each, each_parts, from_all}
 use Rattle.proof_plans.specs.declared.plans.Plan.{Plan}
 use Rattle.proof_plans.specs.declared.plans.StepFault.{StepFault}
 use Rattle.proof_script.specs.declared.finding.Finding.{Finding}
@@ -36,7 +36,7 @@ use Rattle.proof_plans.specs.Reaching.{Reach, reach_of, reached}
 use Rattle.proof_plans.specs.Shown.{ShownAt, AreShown}
 use Rattle.proof_script.specs.Searches.{HasCertificates, Searches}
 use Rattle.proof_plans.specs.Verdicts.{most_levels}
-use Rattle.rules_steps.proofs.ItemLaws.{to_all}
+use Rattle.proof_plans.proofs.lemmas_from_rules_steps.ItemLaws.{to_all}
 use Rattle.proof_plans.proofs.ReachLaws.{accepted, shown_join}
 
 -- lists

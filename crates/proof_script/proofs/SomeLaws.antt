@@ -8,8 +8,8 @@ use Rattle.obligations.specs.Certificates.{units}
 use Rattle.obligations.specs.Obligations.{IsObligation}
 use Rattle.obligations.specs.declared.branches.Obligation.{Obligation}
 use Rattle.obligations.specs.declared.certificates.Cert.{Cert}
-use Rattle.rules_table.proofs.EachLaws.{Each, from_all}
-use Rattle.search_tree.specs.Ends.{Ending, proved, refuted, short, SearchEnds}
+use Rattle.proof_plans.proofs.lemmas_from_rules_table.EachLaws.{Each, from_all}
+use Rattle.proof_search.specs.from_search_tree.Ends.{Ending, proved, refuted, short, SearchEnds}
 use Rattle.proof_script.specs.declared.finding.Finding.{Finding}
 use Rattle.proof_script.specs.declared.finding.Halt.{Halt}
 use Rattle.proof_plans.specs.declared.plans.Plan.{Plan}

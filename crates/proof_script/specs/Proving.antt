@@ -10,8 +10,8 @@ use Rattle.obligations.specs.Certificates.{units}
 use Rattle.obligations.specs.Opening.{Valid}
 use Rattle.obligations.specs.Plain.{enough, quotients_in}
 use Rattle.fair_rounds.specs.declared.records.Record.{Record}
-use Rattle.linear_prover.specs.Chains.{is_plain_node}
-use Rattle.search_tree.specs.Searching.{Counterexample, is_found_node}
+use Rattle.proof_search.specs.from_linear_prover.Chains.{is_plain_node}
+use Rattle.proof_search.specs.from_search_tree.Searching.{Counterexample, is_found_node}
 use Rattle.proof_plans.specs.declared.plans.Plan.{Plan}
 use Rattle.proof_plans.specs.declared.plans.StepFault.{StepFault}
 use Rattle.proof_plans.specs.declared.plans.ScriptError.{ScriptError}

@@ -1,7 +1,7 @@
 // Whole certificates, told to a judge event by event.
 ghost use Rattle.std.specs.Prelude.{◌∷◌, map, [], OnOk};
 ghost use Rattle.obligations.specs.Certificates.{node_pairs};
-ghost use Rattle.event_checker.specs.Events.{events_of, node_events, pair_event};
+ghost use Rattle.certificate_check.specs.from_event_checker.Events.{events_of, node_events, pair_event};
 ghost use Rattle.event_judge.specs.Judges.{JudgeIsReady};
 ghost use Rattle.event_judge.specs.Told.{cert_events, certs_events};
 ghost use Rattle.proof_script.specs.Telling.{JudgeIsTold};

@@ -1,2 +1,3 @@
+pub use Rattle.search_tree.proofs as lemmas_from_search_tree
 pub mod FindingLaws
 pub mod PlainWalks

@@ -9,12 +9,12 @@ use Rattle.core_terms.specs.declared.documents.CStep.{CStep}
 use Rattle.core_terms.specs.declared.documents.CProof.{CProof}
 use Rattle.obligations.specs.declared.branches.Obligation.{Obligation}
 use Rattle.obligations.specs.declared.certificates.Cert.{Cert}
-use Rattle.rules_table.specs.Conclusion.{Conclusion}
-use Rattle.rules_table.specs.Table.{needs}
-use Rattle.rules_table.specs.Walk.{Around, has_defined, program_of, rule_of}
-use Rattle.safety_rules.specs.declared.places.Derived.{Derived}
-use Rattle.safety_rules.specs.Answers.{derived_of}
-use Rattle.rules_steps.specs.Starts.{document_seen}
+use Rattle.proof_plans.specs.from_rules_table.Conclusion.{Conclusion}
+use Rattle.proof_plans.specs.from_rules_table.Table.{needs}
+use Rattle.proof_plans.specs.from_rules_table.Walk.{Around, has_defined, program_of, rule_of}
+use Rattle.proof_plans.specs.from_safety_rules.declared.places.Derived.{Derived}
+use Rattle.proof_plans.specs.from_safety_rules.Answers.{derived_of}
+use Rattle.proof_plans.specs.from_rules_steps.Starts.{document_seen}
 use Rattle.proof_plans.specs.declared.plans.Plan.{Plan}
 use Rattle.proof_plans.specs.declared.plans.StepFault.{StepFault}
 use Rattle.proof_plans.specs.Reaching.{Reach, further, by_row, steps_reach, end_reach, proof_reach}

@@ -7,7 +7,7 @@ use Rattle.core_terms.specs.declared.documents.CProof.{CProof}
 use Rattle.core_terms.specs.declared.documents.CDocument.{CDocument}
 use Rattle.obligations.specs.declared.branches.Obligation.{Obligation}
 use Rattle.obligations.specs.declared.certificates.Cert.{Cert}
-use Rattle.rules_table.specs.Walk.{program_of}
+use Rattle.proof_plans.specs.from_rules_table.Walk.{program_of}
 use Rattle.proof_plans.specs.declared.plans.Plan.{Plan}
 use Rattle.proof_plans.specs.declared.plans.StepFault.{StepFault}
 use Rattle.proof_plans.specs.Reaching.{Reach, reach_of, reached}

@@ -24,36 +24,43 @@ use Rattle.core_terms.specs.Conditions.{StatementFits, is_below, rule_ranges}
 use Rattle.core_terms.specs.Folding.{or_form, not_form}
 use Rattle.core_terms.specs.Sizes.{form_nodes}
 use Rattle.core_terms.specs.Weights.{form_weight, slot_weight, place_weight}
-use Rattle.obligations.specs.declared.branches.Obligation.{Obligation}
-use Rattle.obligations.specs.Obligations.{IsObligation}
-use Rattle.obligations.specs.Plain.{height_of}
-use Rattle.obligations.proofs.ObligationLaws.{is-obligation, refused-for-size, refused-for-height}
-use Rattle.wp_substitution.specs.Preconditions.{all_of, defined_form, wp_form}
-use Rattle.fixed_points.specs.FixedForms.{fixed_part}
+use Rattle.safety_rules.specs.from_obligations.declared.branches.Obligation.{Obligation}
+use Rattle.safety_rules.specs.from_obligations.Obligations.{IsObligation}
+use Rattle.safety_rules.specs.from_obligations.Plain.{height_of}
+use Rattle.safety_rules.proofs.lemmas_from_obligations.ObligationLaws.{is-obligation, refused-for-size}
+use Rattle.safety_rules.proofs.lemmas_from_obligations.ObligationLaws.{refused-for-height}
+use Rattle.safety_rules.specs.from_wp_substitution.Preconditions.{all_of, defined_form, wp_form}
+use Rattle.safety_rules.specs.from_fixed_points.FixedForms.{fixed_part}
 use Rattle.fair_rounds.specs.declared.records.Record.{Record}
-use Rattle.rules_table.specs.Conclusion.{Conclusion}
-use Rattle.rules_table.specs.Forms.{any_of, imply}
-use Rattle.rules_table.specs.Limits.{is_provable}
-use Rattle.rules_table.specs.Validity.{Goal, goal_obligation}
-use Rattle.rules_table.specs.Table.{Site, needs, go_on, goals_of, concluded, defined_forms, kept_form}
-use Rattle.rules_table.specs.Table.{invariant_forms, unless_form, unless_forms, equations, instances_of, names_some}
-use Rattle.rules_table.specs.Table.{meant_forms, helped_form, helper_forms, is_helper, ensures_of, is_unless}
-use Rattle.rules_table.specs.Table.{is_ensures, fixed_forms}
-use Rattle.rules_table.specs.Further.{complete_of, pair_by}
-use Rattle.rules_table.specs.Table.{weaken_of, pair_kinds, shown_forms, union_defined_of, union_invariant_of}
-use Rattle.rules_table.specs.Table.{union_unless_of, union_ensures_of}
-use Rattle.rules_table.specs.Layers.{starts_below, record_over, superpose_of}
-use Rattle.rules_table.specs.Terms.{all_ranges, derive_of, leads_record, referred, term_of}
-use Rattle.rules_table.specs.declared.led.Led.{Led}
-use Rattle.rules_table.specs.Walk.{Around, again_of, applied, claims, is_kind, proof_of, same_again, step_site}
-use Rattle.rules_table.specs.Walk.{suits, text_of, used}
-use Rattle.rules_table.specs.Walk.{rule_of, part_record, first_part, second_part, serves_union, serves_after, united}
-use Rattle.rules_table.proofs.EachLaws.{Each, from_all, each_join, each_at, found_in}
-use Rattle.rules_table.proofs.LayerLaws.{row_met, layer_given}
-use Rattle.rules_table.proofs.RowEquations.{derive-is, defined-is, invariant-is, unless-is, fixed-is, ensures-is}
-use Rattle.rules_table.proofs.RowEquations.{weaken-is}
-use Rattle.rules_table.proofs.SiteLaws.{met, went_on, concluded_is}
-use Rattle.rules_table.proofs.PairLaws.{of_pair_by, four_given}
+use Rattle.safety_rules.specs.from_rules_table.Conclusion.{Conclusion}
+use Rattle.safety_rules.specs.from_rules_table.Forms.{any_of, imply}
+use Rattle.safety_rules.specs.from_rules_table.Limits.{is_provable}
+use Rattle.safety_rules.specs.from_rules_table.Validity.{Goal, goal_obligation}
+use Rattle.safety_rules.specs.from_rules_table.Table.{Site, needs, go_on, goals_of, concluded, defined_forms, kept_form}
+use Rattle.safety_rules.specs.from_rules_table.Table.{invariant_forms, unless_form, unless_forms, equations}
+use Rattle.safety_rules.specs.from_rules_table.Table.{instances_of, names_some}
+use Rattle.safety_rules.specs.from_rules_table.Table.{meant_forms, helped_form, helper_forms, is_helper, ensures_of}
+use Rattle.safety_rules.specs.from_rules_table.Table.{is_unless}
+use Rattle.safety_rules.specs.from_rules_table.Table.{is_ensures, fixed_forms}
+use Rattle.safety_rules.specs.from_rules_table.Further.{complete_of, pair_by}
+use Rattle.safety_rules.specs.from_rules_table.Table.{weaken_of, pair_kinds, shown_forms, union_defined_of}
+use Rattle.safety_rules.specs.from_rules_table.Table.{union_invariant_of}
+use Rattle.safety_rules.specs.from_rules_table.Table.{union_unless_of, union_ensures_of}
+use Rattle.safety_rules.specs.from_rules_table.Layers.{starts_below, record_over, superpose_of}
+use Rattle.safety_rules.specs.from_rules_table.Terms.{all_ranges, derive_of, leads_record, referred, term_of}
+use Rattle.safety_rules.specs.from_rules_table.declared.led.Led.{Led}
+use Rattle.safety_rules.specs.from_rules_table.Walk.{Around, again_of, applied, claims, is_kind, proof_of, same_again}
+use Rattle.safety_rules.specs.from_rules_table.Walk.{step_site}
+use Rattle.safety_rules.specs.from_rules_table.Walk.{suits, text_of, used}
+use Rattle.safety_rules.specs.from_rules_table.Walk.{rule_of, part_record, first_part, second_part, serves_union}
+use Rattle.safety_rules.specs.from_rules_table.Walk.{serves_after, united}
+use Rattle.safety_rules.proofs.lemmas_from_rules_table.EachLaws.{Each, from_all, each_join, each_at, found_in}
+use Rattle.safety_rules.proofs.lemmas_from_rules_table.LayerLaws.{row_met, layer_given}
+use Rattle.safety_rules.proofs.lemmas_from_rules_table.RowEquations.{derive-is, defined-is, invariant-is, unless-is}
+use Rattle.safety_rules.proofs.lemmas_from_rules_table.RowEquations.{fixed-is, ensures-is}
+use Rattle.safety_rules.proofs.lemmas_from_rules_table.RowEquations.{weaken-is}
+use Rattle.safety_rules.proofs.lemmas_from_rules_table.SiteLaws.{met, went_on, concluded_is}
+use Rattle.safety_rules.proofs.lemmas_from_rules_table.PairLaws.{of_pair_by, four_given}
 use Rattle.safety_rules.specs.declared.places.Derived.{Derived}
 use Rattle.safety_rules.specs.declared.places.RuleError.{RuleError}
 use Rattle.safety_rules.specs.Answers.{RuleAnswers, obligations_of}

@@ -23,22 +23,26 @@ use Rattle.core_terms.specs.Conditions.{FormFits, IsRange, IsStep, KindFits}
 use Rattle.core_terms.specs.Folding.{and_form, or_form}
 use Rattle.core_terms.specs.Trees.{same_form}
 use Rattle.fair_rounds.specs.declared.records.Record.{Record}
-use Rattle.rules_table.specs.Conclusion.{Conclusion}
-use Rattle.rules_table.specs.Forms.{imply}
-use Rattle.rules_table.specs.Table.{Site, needs, go_on, with_each, record_of, concluded, defined_forms, invariant_forms}
-use Rattle.rules_table.specs.Table.{unless_forms, is_unless, is_ensures, weaken_of, pair_kinds}
-use Rattle.rules_table.specs.Further.{complete_of, pair_by}
-use Rattle.rules_table.specs.Layers.{helper_over, starts_below, superpose_of}
-use Rattle.rules_table.specs.Table.{instance_of, fixed_forms}
-use Rattle.rules_table.specs.Terms.{all_ranges, derive_of, found, leads_record, referred, term_of}
-use Rattle.rules_table.specs.declared.led.Led.{Led}
-use Rattle.rules_table.specs.Walk.{Around, again_of, is_kind, proof_of, same_again, suits, text_of, applied}
-use Rattle.rules_table.proofs.EachLaws.{Each, each_join, from_all}
-use Rattle.rules_table.proofs.RowEquations.{defined-is, invariant-is, unless-is, fixed-is, weaken-is}
-use Rattle.rules_table.proofs.SiteLaws.{went_on, concluded_is}
-use Rattle.rules_table.proofs.KindLaws.{ensures_is, leadsto_is, same_kind}
-use Rattle.rules_table.proofs.LayerLaws.{row_met, layer_given}
-use Rattle.rules_table.proofs.PairLaws.{pair_helper, given_kind, given_helper, of_pair_by, given_kind_is, four_given}
+use Rattle.safety_rules.specs.from_rules_table.Conclusion.{Conclusion}
+use Rattle.safety_rules.specs.from_rules_table.Forms.{imply}
+use Rattle.safety_rules.specs.from_rules_table.Table.{Site, needs, go_on, with_each, record_of, concluded}
+use Rattle.safety_rules.specs.from_rules_table.Table.{defined_forms, invariant_forms}
+use Rattle.safety_rules.specs.from_rules_table.Table.{unless_forms, is_unless, is_ensures, weaken_of, pair_kinds}
+use Rattle.safety_rules.specs.from_rules_table.Further.{complete_of, pair_by}
+use Rattle.safety_rules.specs.from_rules_table.Layers.{helper_over, starts_below, superpose_of}
+use Rattle.safety_rules.specs.from_rules_table.Table.{instance_of, fixed_forms}
+use Rattle.safety_rules.specs.from_rules_table.Terms.{all_ranges, derive_of, found, leads_record, referred, term_of}
+use Rattle.safety_rules.specs.from_rules_table.declared.led.Led.{Led}
+use Rattle.safety_rules.specs.from_rules_table.Walk.{Around, again_of, is_kind, proof_of, same_again, suits, text_of}
+use Rattle.safety_rules.specs.from_rules_table.Walk.{applied}
+use Rattle.safety_rules.proofs.lemmas_from_rules_table.EachLaws.{Each, each_join, from_all}
+use Rattle.safety_rules.proofs.lemmas_from_rules_table.RowEquations.{defined-is, invariant-is, unless-is, fixed-is}
+use Rattle.safety_rules.proofs.lemmas_from_rules_table.RowEquations.{weaken-is}
+use Rattle.safety_rules.proofs.lemmas_from_rules_table.SiteLaws.{went_on, concluded_is}
+use Rattle.safety_rules.proofs.lemmas_from_rules_table.KindLaws.{ensures_is, leadsto_is, same_kind}
+use Rattle.safety_rules.proofs.lemmas_from_rules_table.LayerLaws.{row_met, layer_given}
+use Rattle.safety_rules.proofs.lemmas_from_rules_table.PairLaws.{pair_helper, given_kind, given_helper, of_pair_by}
+use Rattle.safety_rules.proofs.lemmas_from_rules_table.PairLaws.{given_kind_is, four_given}
 use Rattle.safety_rules.specs.declared.places.Place.{Place}
 use Rattle.safety_rules.specs.Answers.{site_of, IsPremiseAt}
 use Rattle.safety_rules.specs.Instances.{HelperFits}
@@ -50,13 +54,15 @@ use Rattle.rules_steps.proofs.ReferredLaws.{IsReferred, instance_row_is, referre
 use Rattle.leadsto_rules.specs.Leading.{IsTermIn}
 use Rattle.rules_steps.proofs.UsingLaws.{found_entry, known_so}
 use Rattle.core_terms.specs.Conditions.{TermWellScoped, RuleWellScoped, bound_ranges, is_below, rule_ranges}
-use Rattle.rules_table.specs.Table.{ensures_of, is_helper, helper_forms}
-use Rattle.rules_table.proofs.RowEquations.{derive-is, ensures-is}
+use Rattle.safety_rules.specs.from_rules_table.Table.{ensures_of, is_helper, helper_forms}
+use Rattle.safety_rules.proofs.lemmas_from_rules_table.RowEquations.{derive-is, ensures-is}
 use Rattle.std.proofs.Common.{Err}
 use Rattle.rules_steps.proofs.HelperLaws.{helper_seen}
-use Rattle.rules_table.specs.Table.{union_defined_of, union_invariant_of, union_unless_of, union_ensures_of}
-use Rattle.rules_table.specs.Table.{shown_forms, first_helper}
-use Rattle.rules_table.specs.Walk.{part_record, first_part, second_part, serves_union, serves_after, united}
+use Rattle.safety_rules.specs.from_rules_table.Table.{union_defined_of, union_invariant_of, union_unless_of}
+use Rattle.safety_rules.specs.from_rules_table.Table.{union_ensures_of}
+use Rattle.safety_rules.specs.from_rules_table.Table.{shown_forms, first_helper}
+use Rattle.safety_rules.specs.from_rules_table.Walk.{part_record, first_part, second_part, serves_union, serves_after}
+use Rattle.safety_rules.specs.from_rules_table.Walk.{united}
 
 -- lists
 

@@ -10,8 +10,9 @@ use Rattle.core_terms.specs.declared.trees.Range.{Range}
 use Rattle.core_terms.specs.declared.documents.Arg.{Arg}
 use Rattle.core_terms.specs.declared.documents.Helper.{Helper}
 use Rattle.core_terms.specs.Conditions.{IsRange, ArgFits, IsIndex, HelperWellScoped}
-use Rattle.rules_table.specs.Table.{lies_in, is_argument, are_arguments, moved_at, put_in, helper_with}
-use Rattle.rules_table.proofs.EachLaws.{from_all, each_at}
+use Rattle.safety_rules.specs.from_rules_table.Table.{lies_in, is_argument, are_arguments, moved_at, put_in}
+use Rattle.safety_rules.specs.from_rules_table.Table.{helper_with}
+use Rattle.safety_rules.proofs.lemmas_from_rules_table.EachLaws.{from_all, each_at}
 use Rattle.safety_rules.specs.Instances.{IsSmallIndex, SumFits, IndexFits, HelperFits}
 
 got_range : (ranges : List Range) (n : ℕ) (s : Range) → All IsRange ranges → slice_get ranges n ≡ Some s → IsRange s

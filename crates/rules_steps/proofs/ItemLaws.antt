@@ -2,7 +2,7 @@
 use Rattle.std.proofs.Common.{◌≡◌, ℕ, zero, suc, ◌+◌, ◌<◌, ◌≤◌, List, [], ◌∷◌, length, drop, refl, sym, ap, ◌∙◌}
 use Rattle.std.proofs.Common.{slice_index_or, arith}
 use Rattle.std.proofs.Math.Seq.{drop-cons}
-use Rattle.rules_table.proofs.EachLaws.{Each}
+use Rattle.safety_rules.proofs.lemmas_from_rules_table.EachLaws.{Each}
 
 pub drop_at : {X : Type 0} (xs : List X) (i : ℕ) (x : X) → i < length xs → x ≡ slice_index_or xs i x →
     drop i xs ≡ x ∷ drop (i + 1) xs

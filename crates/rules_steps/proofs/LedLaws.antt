@@ -23,23 +23,26 @@ use Rattle.core_terms.specs.Folding.{or_form, not_form}
 use Rattle.core_terms.specs.Places.{slots_step, params_step, names_param}
 use Rattle.core_terms.specs.Trees.{same_form}
 use Rattle.meaning_states.proofs.StepTheorems.{and_left, and_right}
-use Rattle.wp_substitution.proofs.PlaceLaws.{bottom_within}
+use Rattle.safety_rules.proofs.lemmas_from_wp_substitution.PlaceLaws.{bottom_within}
 use Rattle.fair_rounds.specs.declared.records.Record.{Record}
-use Rattle.rules_table.specs.Forms.{any_of, imply, or_any}
-use Rattle.rules_table.specs.Limits.{fits}
-use Rattle.rules_table.specs.Numbers.{form_for, numbers_of}
-use Rattle.rules_table.specs.Table.{Site, needs, go_on, is_unless}
-use Rattle.rules_table.specs.Terms.{at_measure, below_measure, leads, leads_any, leads_by, leads_down, leads_either}
-use Rattle.rules_table.specs.Terms.{leads_from, leads_on, leads_safely, leads_weaker, measure_lies, node, referred}
-use Rattle.rules_table.specs.Terms.{term_of}
-use Rattle.rules_table.specs.declared.led.Led.{Led}
-use Rattle.rules_table.proofs.RowEquations.{term-Imply, term-From, term-Trans, term-Either, term-Exists, term-Induct}
-use Rattle.rules_table.proofs.RowEquations.{term-Psp, term-Weaken}
-use Rattle.rules_table.proofs.EachLaws.{Each, each_join, each_parts, from_all}
-use Rattle.rules_table.proofs.SiteLaws.{met, went_on}
+use Rattle.safety_rules.specs.from_rules_table.Forms.{any_of, imply, or_any}
+use Rattle.safety_rules.specs.from_rules_table.Limits.{fits}
+use Rattle.safety_rules.specs.from_rules_table.Numbers.{form_for, numbers_of}
+use Rattle.safety_rules.specs.from_rules_table.Table.{Site, needs, go_on, is_unless}
+use Rattle.safety_rules.specs.from_rules_table.Terms.{at_measure, below_measure, leads, leads_any, leads_by, leads_down}
+use Rattle.safety_rules.specs.from_rules_table.Terms.{leads_either}
+use Rattle.safety_rules.specs.from_rules_table.Terms.{leads_from, leads_on, leads_safely, leads_weaker, measure_lies}
+use Rattle.safety_rules.specs.from_rules_table.Terms.{node, referred}
+use Rattle.safety_rules.specs.from_rules_table.Terms.{term_of}
+use Rattle.safety_rules.specs.from_rules_table.declared.led.Led.{Led}
+use Rattle.safety_rules.proofs.lemmas_from_rules_table.RowEquations.{term-Imply, term-From, term-Trans, term-Either}
+use Rattle.safety_rules.proofs.lemmas_from_rules_table.RowEquations.{term-Exists, term-Induct}
+use Rattle.safety_rules.proofs.lemmas_from_rules_table.RowEquations.{term-Psp, term-Weaken}
+use Rattle.safety_rules.proofs.lemmas_from_rules_table.EachLaws.{Each, each_join, each_parts, from_all}
+use Rattle.safety_rules.proofs.lemmas_from_rules_table.SiteLaws.{met, went_on}
 use Rattle.safety_rules.specs.Usable.{NamesExist}
 use Rattle.safety_rules.proofs.UsableLaws.{exist_imply, exist_or, fits_exist}
-use Rattle.wp_substitution.proofs.NamedLaws.{slot_counts, param_counts}
+use Rattle.safety_rules.proofs.lemmas_from_wp_substitution.NamedLaws.{slot_counts, param_counts}
 use Rattle.safety_rules.proofs.UsableLaws.{all_exist, both_usable, light_not, usable}
 use Rattle.leadsto_rules.specs.Leading.{IsTermIn, LedFits}
 use Rattle.leadsto_rules.proofs.InductionLaws.{lies_exist}

@@ -16,15 +16,15 @@ use Rattle.core_terms.specs.Sizes.{form_nodes}
 use Rattle.core_terms.specs.Weights.{form_weight, slot_weight, place_weight}
 use Rattle.meaning_states.proofs.StepTheorems.{and_left, and_right}
 use Rattle.fair_rounds.specs.declared.records.Record.{Record}
-use Rattle.rules_table.specs.Limits.{fits}
-use Rattle.rules_table.specs.Table.{Site, needs, is_slot, are_arguments, record_with, instance_of}
-use Rattle.rules_table.specs.Terms.{found, referred}
-use Rattle.rules_table.specs.Walk.{other_record}
-use Rattle.rules_table.proofs.CalcSound.{instance_is as instance_made}
-use Rattle.rules_table.proofs.EachLaws.{Each, from_all}
-use Rattle.rules_table.proofs.LayerLaws.{other_given}
-use Rattle.rules_table.proofs.RowEquations.{instance-is}
-use Rattle.rules_table.proofs.SiteLaws.{met, went_on}
+use Rattle.safety_rules.specs.from_rules_table.Limits.{fits}
+use Rattle.safety_rules.specs.from_rules_table.Table.{Site, needs, is_slot, are_arguments, record_with, instance_of}
+use Rattle.safety_rules.specs.from_rules_table.Terms.{found, referred}
+use Rattle.safety_rules.specs.from_rules_table.Walk.{other_record}
+use Rattle.safety_rules.proofs.lemmas_from_rules_table.CalcSound.{instance_is as instance_made}
+use Rattle.safety_rules.proofs.lemmas_from_rules_table.EachLaws.{Each, from_all}
+use Rattle.safety_rules.proofs.lemmas_from_rules_table.LayerLaws.{other_given}
+use Rattle.safety_rules.proofs.lemmas_from_rules_table.RowEquations.{instance-is}
+use Rattle.safety_rules.proofs.lemmas_from_rules_table.SiteLaws.{met, went_on}
 use Rattle.safety_rules.specs.Instances.{CanPut, HelperFits}
 use Rattle.safety_rules.proofs.InstanceLaws.{can_put}
 use Rattle.rules_steps.specs.Using.{IsEntry, BookFits}

@@ -7,13 +7,13 @@ use Rattle.core_terms.specs.declared.trees.Range.{Range}
 use Rattle.core_terms.specs.declared.trees.CForm.{CForm}
 use Rattle.core_terms.specs.declared.programs.CSlot.{CSlot}
 use Rattle.fair_rounds.specs.declared.records.Record.{Record}
-use Rattle.rules_table.specs.Conclusion.{Conclusion}
-use Rattle.rules_table.specs.Limits.{fits, is_provable}
-use Rattle.rules_table.specs.Validity.{Goal}
-use Rattle.rules_table.specs.Table.{needs, go_on, goals_of, concluded}
-use Rattle.rules_table.proofs.EachLaws.{Each}
-use Rattle.rules_table.proofs.RowEquations.{concluded-is}
-use Rattle.rules_table.proofs.SiteLaws.{met, concluded_is}
+use Rattle.safety_rules.specs.from_rules_table.Conclusion.{Conclusion}
+use Rattle.safety_rules.specs.from_rules_table.Limits.{fits, is_provable}
+use Rattle.safety_rules.specs.from_rules_table.Validity.{Goal}
+use Rattle.safety_rules.specs.from_rules_table.Table.{needs, go_on, goals_of, concluded}
+use Rattle.safety_rules.proofs.lemmas_from_rules_table.EachLaws.{Each}
+use Rattle.safety_rules.proofs.lemmas_from_rules_table.RowEquations.{concluded-is}
+use Rattle.safety_rules.proofs.lemmas_from_rules_table.SiteLaws.{met, concluded_is}
 
 -- what is left to be shown is within the limits
 abbrev pub IsSmall : List CSlot → Goal → Type 0

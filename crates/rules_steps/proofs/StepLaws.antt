@@ -11,12 +11,12 @@ use Rattle.core_terms.specs.declared.programs.CSlot.{CSlot}
 use Rattle.core_terms.specs.declared.programs.CProgram.{CProgram}
 use Rattle.core_terms.specs.declared.documents.CStep.{CStep}
 use Rattle.fair_rounds.specs.declared.records.Record.{Record}
-use Rattle.rules_table.specs.Conclusion.{Conclusion}
-use Rattle.rules_table.specs.Table.{Site, needs, go_on}
-use Rattle.rules_table.proofs.SiteLaws.{met, went_on}
-use Rattle.rules_table.specs.Walk.{is_first, has_defined, used, suits, applied, claims, step_site}
-use Rattle.rules_table.specs.Walk.{Around, rule_of}
-use Rattle.rules_table.proofs.EachLaws.{Each, from_all}
+use Rattle.safety_rules.specs.from_rules_table.Conclusion.{Conclusion}
+use Rattle.safety_rules.specs.from_rules_table.Table.{Site, needs, go_on}
+use Rattle.safety_rules.proofs.lemmas_from_rules_table.SiteLaws.{met, went_on}
+use Rattle.safety_rules.specs.from_rules_table.Walk.{is_first, has_defined, used, suits, applied, claims, step_site}
+use Rattle.safety_rules.specs.from_rules_table.Walk.{Around, rule_of}
+use Rattle.safety_rules.proofs.lemmas_from_rules_table.EachLaws.{Each, from_all}
 use Rattle.safety_rules.specs.declared.places.Derived.{Derived}
 use Rattle.safety_rules.specs.declared.places.RuleError.{RuleError}
 use Rattle.safety_rules.specs.Answers.{derived_of, RuleAnswers}

@@ -18,11 +18,11 @@ use Rattle.core_terms.specs.Conditions.{FormFits, KindFits}
 use Rattle.core_terms.specs.declared.trees.Range.{Range}
 use Rattle.case_tables.specs.declared.kind_table.Kind.{Kind}
 use Rattle.fair_rounds.specs.declared.records.Record.{Record}
-use Rattle.rules_table.specs.Table.{needs, go_on, is_invariant}
-use Rattle.rules_table.specs.Terms.{known, found}
-use Rattle.rules_table.specs.Walk.{is_empty, used}
-use Rattle.rules_table.proofs.EachLaws.{found_in}
-use Rattle.rules_table.proofs.SiteLaws.{met, went_on}
+use Rattle.safety_rules.specs.from_rules_table.Table.{needs, go_on, is_invariant}
+use Rattle.safety_rules.specs.from_rules_table.Terms.{known, found}
+use Rattle.safety_rules.specs.from_rules_table.Walk.{is_empty, used}
+use Rattle.safety_rules.proofs.lemmas_from_rules_table.EachLaws.{found_in}
+use Rattle.safety_rules.proofs.lemmas_from_rules_table.SiteLaws.{met, went_on}
 use Rattle.meaning_states.proofs.StepTheorems.{and_left}
 use Rattle.safety_rules.specs.declared.places.RuleError.{RuleError}
 use Rattle.rules_steps.specs.Using.{use_of, UsesOne, Uses, IsEntry, BookFits}

@@ -9,12 +9,13 @@ use Rattle.core_terms.specs.declared.programs.CProgram.{CProgram}
 use Rattle.core_terms.specs.declared.documents.Ref.{Ref}
 use Rattle.core_terms.specs.declared.documents.CStep.{CStep}
 use Rattle.fair_rounds.specs.declared.records.Record.{Record}
-use Rattle.rules_table.specs.Conclusion.{Conclusion}
-use Rattle.rules_table.specs.Table.{Site, go_on, pair_kinds, weaken_of}
-use Rattle.rules_table.specs.Further.{complete_of, pair_by}
-use Rattle.rules_table.specs.Terms.{referred}
-use Rattle.rules_table.specs.Walk.{first_part, second_part, is_kind, part_record, same_again, serves_union}
-use Rattle.rules_table.specs.Walk.{serves_after, united}
+use Rattle.safety_rules.specs.from_rules_table.Conclusion.{Conclusion}
+use Rattle.safety_rules.specs.from_rules_table.Table.{Site, go_on, pair_kinds, weaken_of}
+use Rattle.safety_rules.specs.from_rules_table.Further.{complete_of, pair_by}
+use Rattle.safety_rules.specs.from_rules_table.Terms.{referred}
+use Rattle.safety_rules.specs.from_rules_table.Walk.{first_part, second_part, is_kind, part_record, same_again}
+use Rattle.safety_rules.specs.from_rules_table.Walk.{serves_union}
+use Rattle.safety_rules.specs.from_rules_table.Walk.{serves_after, united}
 
 -- `weaken R`
 abbrev pub weaken_row : Site → CStep → List Record → Ref → Result Conclusion Code

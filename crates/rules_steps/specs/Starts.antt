@@ -6,7 +6,7 @@ use Rattle.core_terms.specs.declared.documents.CDocument.{CDocument}
 use Rattle.core_terms.specs.Conditions.{IsSlot, IsProgram}
 use Rattle.core_terms.specs.Values.{form_value}
 use Rattle.executor.specs.StartState.{start_state}
-use Rattle.rules_table.specs.Walk as walk
+use Rattle.safety_rules.specs.from_rules_table.Walk as walk
 use Rattle.rules_steps.specs.declared.around.Around.{Around}
 
 -- the start state of a program meets its initially section

@@ -3,7 +3,7 @@ use Rattle.std.specs.Prelude.{◌≡◌, List, All}
 use Rattle.core_terms.specs.declared.programs.CSlot.{CSlot}
 use Rattle.core_terms.specs.declared.programs.CProgram.{CProgram}
 use Rattle.core_terms.specs.declared.documents.CStep.{CStep}
-use Rattle.obligations.specs.Obligations.{IsObligation}
+use Rattle.safety_rules.specs.from_obligations.Obligations.{IsObligation}
 use Rattle.safety_rules.specs.declared.places.Derived.{Derived}
 use Rattle.rules_steps.specs.Using.{IsEntry}
 

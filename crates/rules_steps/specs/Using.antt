@@ -6,9 +6,9 @@ use Rattle.core_terms.specs.declared.programs.CSlot.{CSlot}
 use Rattle.core_terms.specs.declared.documents.Ref.{Ref}
 use Rattle.core_terms.specs.Conditions.{KindFits}
 use Rattle.fair_rounds.specs.declared.records.Record.{Record}
-use Rattle.rules_table.specs.Table.{needs, go_on, is_invariant}
-use Rattle.rules_table.specs.Terms.{found}
-use Rattle.rules_table.specs.Walk.{is_empty}
+use Rattle.safety_rules.specs.from_rules_table.Table.{needs, go_on, is_invariant}
+use Rattle.safety_rules.specs.from_rules_table.Terms.{found}
+use Rattle.safety_rules.specs.from_rules_table.Walk.{is_empty}
 use Rattle.safety_rules.specs.Instances.{RecordFits}
 use Rattle.safety_rules.specs.declared.places.RuleError.{RuleError}
 

@@ -1,9 +1,9 @@
 // Kinds of steps, and which rules give them.
 ghost use Rattle.std.specs.Prelude.{◌≡◌, ◌||◌};
 ghost use Rattle.core_terms.specs.declared.documents.PTerm.{out-PTerm};
-ghost use Rattle.rules_table.specs.Further as further;
-ghost use Rattle.rules_table.specs.Table as table;
-ghost use Rattle.rules_table.specs.Walk as walk;
+ghost use Rattle.safety_rules.specs.from_rules_table.Further as further;
+ghost use Rattle.safety_rules.specs.from_rules_table.Table as table;
+ghost use Rattle.safety_rules.specs.from_rules_table.Walk as walk;
 
 use case_tables::{Kind, RuleName};
 use core_terms::{CRule, PTerm};

@@ -3,10 +3,10 @@ ghost use Rattle.std.specs.Prelude.{◌≡◌, nat_eq, not, All, IfOk, IfSome, L
 ghost use Rattle.std.specs.Option.{option_copied};
 ghost use Rattle.core_terms.specs.Conditions.{IsProgram};
 ghost use Rattle.core_terms.specs.declared.programs.CSlot.{CSlot};
-ghost use Rattle.rules_table.specs.Layers as layer;
-ghost use Rattle.rules_table.specs.Table as table;
-ghost use Rattle.rules_table.specs.Table.{go_on, needs};
-ghost use Rattle.rules_table.specs.Walk as walk;
+ghost use Rattle.safety_rules.specs.from_rules_table.Layers as layer;
+ghost use Rattle.safety_rules.specs.from_rules_table.Table as table;
+ghost use Rattle.safety_rules.specs.from_rules_table.Table.{go_on, needs};
+ghost use Rattle.safety_rules.specs.from_rules_table.Walk as walk;
 ghost use Rattle.safety_rules.specs.Answers.{RuleAnswers, IsPlace, IsPremiseAt, site_of};
 ghost use Rattle.safety_rules.specs.Instances.{AnswersRecord, RecordFits};
 ghost use Rattle.rules_steps.specs.Starts.{seen_with};

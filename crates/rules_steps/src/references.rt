@@ -1,9 +1,9 @@
 // The records of earlier steps, with arguments for their parameters.
 ghost use Rattle.std.specs.Prelude.{◌≡◌, nat_eq, IfOk, Result};
-ghost use Rattle.rules_table.specs.Table as table;
-ghost use Rattle.rules_table.specs.Table.{needs};
-ghost use Rattle.rules_table.specs.Terms as terms;
-ghost use Rattle.rules_table.specs.Walk as walk;
+ghost use Rattle.safety_rules.specs.from_rules_table.Table as table;
+ghost use Rattle.safety_rules.specs.from_rules_table.Table.{needs};
+ghost use Rattle.safety_rules.specs.from_rules_table.Terms as terms;
+ghost use Rattle.safety_rules.specs.from_rules_table.Walk as walk;
 ghost use Rattle.fair_rounds.specs.declared.records.Record.{Record};
 ghost use Rattle.safety_rules.specs.Answers.{IsPlace, IsPremiseAt, site_of};
 ghost use Rattle.safety_rules.specs.Instances.{AnswersRecord, RecordFits};

@@ -5,11 +5,11 @@ ghost use Rattle.core_terms.specs.Conditions.{FormFits, IsProgram, IsStep, RuleW
 ghost use Rattle.core_terms.specs.Conditions.{rule_ranges};
 ghost use Rattle.core_terms.specs.declared.documents.CRule.{CRule};
 ghost use Rattle.core_terms.specs.Trees.{same_form};
-ghost use Rattle.rules_table.specs.Conclusion.{Conclusion};
-ghost use Rattle.rules_table.specs.Further as further;
-ghost use Rattle.rules_table.specs.Table as table;
-ghost use Rattle.rules_table.specs.Table.{go_on, needs};
-ghost use Rattle.rules_table.specs.Walk as walk;
+ghost use Rattle.safety_rules.specs.from_rules_table.Conclusion.{Conclusion};
+ghost use Rattle.safety_rules.specs.from_rules_table.Further as further;
+ghost use Rattle.safety_rules.specs.from_rules_table.Table as table;
+ghost use Rattle.safety_rules.specs.from_rules_table.Table.{go_on, needs};
+ghost use Rattle.safety_rules.specs.from_rules_table.Walk as walk;
 ghost use Rattle.fair_rounds.specs.declared.records.Record.{Record};
 ghost use Rattle.safety_rules.specs.Answers.{RuleAnswers, IsPlace, IsPremiseAt, site_of};
 ghost use Rattle.safety_rules.specs.Instances.{AnswersRecord};

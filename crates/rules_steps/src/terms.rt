@@ -1,7 +1,7 @@
 // Steps by proof terms: a leads-to that is derived, and an earlier step taken again.
 ghost use Rattle.std.specs.Prelude.{◌++◌, length};
 ghost use Rattle.core_terms.specs.Conditions.{NumbersBoundNames, TermWellScoped, bound_ranges, is_below};
-ghost use Rattle.rules_table.specs.Walk as walk;
+ghost use Rattle.safety_rules.specs.from_rules_table.Walk as walk;
 ghost use Rattle.safety_rules.specs.Answers.{RuleAnswers, IsPlace, IsPremiseAt, site_of};
 ghost use Rattle.rules_steps.specs.Rows.{again_row, from_row};
 ghost use Rattle.rules_steps.specs.Using.{BookFits};

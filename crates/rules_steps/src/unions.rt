@@ -2,9 +2,9 @@
 ghost use Rattle.std.specs.Prelude.{◌≡◌, nat_eq, IfOk, Option, Result, Some};
 ghost use Rattle.core_terms.specs.declared.programs.CProgram.{CProgram};
 ghost use Rattle.fair_rounds.specs.declared.records.Record.{Record};
-ghost use Rattle.rules_table.specs.Table as table;
-ghost use Rattle.rules_table.specs.Table.{go_on, needs};
-ghost use Rattle.rules_table.specs.Walk as walk;
+ghost use Rattle.safety_rules.specs.from_rules_table.Table as table;
+ghost use Rattle.safety_rules.specs.from_rules_table.Table.{go_on, needs};
+ghost use Rattle.safety_rules.specs.from_rules_table.Walk as walk;
 ghost use Rattle.safety_rules.specs.Answers.{RuleAnswers, IsPlace, IsPremiseAt, site_of};
 ghost use Rattle.safety_rules.specs.Instances.{AnswersRecord, RecordFits};
 ghost use Rattle.rules_steps.specs.Rows.{serves_claim, union_row};

@@ -24,15 +24,18 @@ use Rattle.core_terms.specs.declared.programs.CProgram.{CProgram}
 use Rattle.core_terms.specs.declared.programs.CSlot.{CSlot}
 use Rattle.core_terms.specs.declared.trees.CForm.{CForm}
 use Rattle.core_terms.specs.declared.trees.Range.{Range}
-use Rattle.meaning_laws.proofs.PairTheorems.{weaker_unless, weaker_ensures, conjunction_rule, conjunction_ensured}
-use Rattle.meaning_laws.proofs.PairTheorems.{simple_conjunction, disjunction_rule, simple_disjunction}
-use Rattle.meaning_laws.proofs.PairTheorems.{cancellation_rule}
-use Rattle.meaning_laws.proofs.StandingTheorems.{unless_narrows, ensures_narrows}
-use Rattle.meaning_laws.specs.PairRules.{conjunction_end, disjunction_end}
-use Rattle.meaning_laws.specs.Stands.{FixedStands, InvariantStands, UnlessStands, ConstantStands, LeadsStands}
-use Rattle.meaning_laws.specs.Tests.{both_hold, Implies, one_holds, fails_with}
+use Rattle.layer_laws.proofs.lemmas_from_meaning_laws.PairTheorems.{weaker_unless, weaker_ensures, conjunction_rule}
+use Rattle.layer_laws.proofs.lemmas_from_meaning_laws.PairTheorems.{conjunction_ensured}
+use Rattle.layer_laws.proofs.lemmas_from_meaning_laws.PairTheorems.{simple_conjunction, disjunction_rule}
+use Rattle.layer_laws.proofs.lemmas_from_meaning_laws.PairTheorems.{simple_disjunction}
+use Rattle.layer_laws.proofs.lemmas_from_meaning_laws.PairTheorems.{cancellation_rule}
+use Rattle.layer_laws.proofs.lemmas_from_meaning_laws.StandingTheorems.{unless_narrows, ensures_narrows}
+use Rattle.layer_laws.specs.from_meaning_laws.PairRules.{conjunction_end, disjunction_end}
+use Rattle.layer_laws.specs.from_meaning_laws.Stands.{FixedStands, InvariantStands, UnlessStands, ConstantStands}
+use Rattle.layer_laws.specs.from_meaning_laws.Stands.{LeadsStands}
+use Rattle.layer_laws.specs.from_meaning_laws.Tests.{both_hold, Implies, one_holds, fails_with}
 use Rattle.fair_rounds.specs.Records.{holding, are_in_ranges, meets, NamedAt, EnsuresNamed}
-use Rattle.executor.specs.CoreSystem.{core_system}
+use Rattle.fair_rounds.specs.from_executor.CoreSystem.{core_system}
 use Rattle.meaning_executions.specs.Counting.{ints_eq}
 use Rattle.fair_rounds.specs.Records.{KindStands}
 use Rattle.fair_rounds.specs.declared.records.Record.{Record}

@@ -9,9 +9,9 @@ use Rattle.core_terms.specs.Conditions.{bound_ranges}
 use Rattle.core_terms.specs.Values.{number_at}
 use Rattle.core_terms.specs.declared.trees.CForm.{CForm}
 use Rattle.core_terms.specs.declared.trees.Range.{Range}
-use Rattle.meaning_laws.specs.Stands.{LeadsStands}
+use Rattle.layer_laws.specs.from_meaning_laws.Stands.{LeadsStands}
 use Rattle.fair_rounds.specs.Records.{holding, are_in_ranges, meets, Stands}
-use Rattle.executor.specs.CoreSystem.{core_system}
+use Rattle.fair_rounds.specs.from_executor.CoreSystem.{core_system}
 use Rattle.rules_table.proofs.CalcSound.{like}
 use Rattle.rules_table.proofs.NumberLaws.{same_length}
 use Rattle.rules_table.proofs.SiteLaws.{went_on, concluded_is}

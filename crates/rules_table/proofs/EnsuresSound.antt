@@ -21,15 +21,15 @@ use Rattle.core_terms.specs.declared.documents.Helper.{Helper}
 use Rattle.core_terms.specs.declared.programs.CStmt.{CStmt}
 use Rattle.core_terms.specs.declared.trees.CForm.{CForm}
 use Rattle.core_terms.specs.declared.trees.CTerm.TheVariants.{Const}
-use Rattle.meaning_laws.specs.Stands.{UnlessStands}
+use Rattle.layer_laws.specs.from_meaning_laws.Stands.{UnlessStands}
 use Rattle.fair_rounds.specs.Records.{holding, are_in_ranges, meets, EnsuresNamed}
-use Rattle.executor.specs.CoreSystem.{core_system}
+use Rattle.fair_rounds.specs.from_executor.CoreSystem.{core_system}
 use Rattle.meaning_executions.specs.Counting.{ints_eq}
 use Rattle.rules_table.proofs.FormLaws.{value_any, value_all, all_join}
 use Rattle.rules_table.proofs.SiteLaws.{met, AreValid, valid_at, valid_parts, meets_means, kept_after}
 use Rattle.rules_table.proofs.TextSound.{given, but_not_forms, unless_stands}
 use Rattle.rules_table.specs.Forms.{any_of}
-use Rattle.wp_substitution.specs.Preconditions.{all_of}
+use Rattle.fixed_points.specs.from_wp_substitution.Preconditions.{all_of}
 use Rattle.rules_table.specs.Sound.{IsSite, EnsuresSound}
 use Rattle.rules_table.specs.Table.{ensures_of, Site, under_with, record_of, concluded, unless_forms, args_agree}
 use Rattle.rules_table.specs.Table.{instances_of, names_some, equations, is_helper, meant_forms, helped_form}

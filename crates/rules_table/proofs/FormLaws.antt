@@ -8,7 +8,7 @@ use Rattle.core_terms.specs.Values.{form_value}
 use Rattle.core_terms.specs.Folding.{and_form, or_form, not_form}
 use Rattle.core_terms.proofs.FoldingLaws.{value-and_form, value-or_form, value-not_form}
 use Rattle.core_terms.proofs.PartLaws.{value-Top, value-Bottom}
-use Rattle.wp_substitution.specs.Preconditions.{and_all, all_of}
+use Rattle.fixed_points.specs.from_wp_substitution.Preconditions.{and_all, all_of}
 use Rattle.rules_table.specs.Forms.{or_any, any_of, imply}
 
 and_true : (a : Bool) → a ≡ (a && true)

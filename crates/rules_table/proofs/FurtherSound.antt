@@ -17,16 +17,17 @@ use Rattle.core_terms.specs.declared.trees.CForm.{CForm, out-CForm, roll-CForm, 
 use Rattle.core_terms.specs.declared.trees.CForm.TheOpen.{CForm-F}
 use Rattle.core_terms.specs.declared.trees.CForm.TheVariants.{Bottom, rolls-Or}
 use Rattle.fair_rounds.specs.Records.{holding, meets, KindStands, Stands}
-use Rattle.executor.specs.CoreSystem.{core_system}
+use Rattle.fair_rounds.specs.from_executor.CoreSystem.{core_system}
 use Rattle.fair_rounds.specs.declared.records.Record.{Record}
 use Rattle.meaning_executions.specs.Execution.{System}
 use Rattle.meaning_executions.specs.Properties.{Test, never, implied, Unless}
-use Rattle.meaning_laws.specs.Stands.{InvariantStands, UnlessStands, ConstantStands, LeadsStands}
+use Rattle.layer_laws.specs.from_meaning_laws.Stands.{InvariantStands, UnlessStands, ConstantStands, LeadsStands}
 use Rattle.meaning_executions.specs.Systems.{kept}
-use Rattle.meaning_laws.specs.Tests.{both_hold, one_holds, fails, Implies}
-use Rattle.meaning_laws.proofs.StandingTheorems.{unless_narrows, invariant_narrows, leads_narrows, unless_kept}
-use Rattle.meaning_laws.proofs.PairTheorems.{constancy_rule}
-use Rattle.meaning_laws.proofs.CompletionTheorems.{completion, leads_cancellation}
+use Rattle.layer_laws.specs.from_meaning_laws.Tests.{both_hold, one_holds, fails, Implies}
+use Rattle.layer_laws.proofs.lemmas_from_meaning_laws.StandingTheorems.{unless_narrows, invariant_narrows}
+use Rattle.layer_laws.proofs.lemmas_from_meaning_laws.StandingTheorems.{leads_narrows, unless_kept}
+use Rattle.layer_laws.proofs.lemmas_from_meaning_laws.PairTheorems.{constancy_rule}
+use Rattle.layer_laws.proofs.lemmas_from_meaning_laws.CompletionTheorems.{completion, leads_cancellation}
 use Rattle.meaning_states.proofs.StepTheorems.{and_left, and_right, both_true}
 use Rattle.meaning_states.specs.State.{State, is_state}
 use Rattle.rules_table.proofs.CalcSound.{at_numbers, of_first, of_second, test_and, test_or, like, pair_sound}

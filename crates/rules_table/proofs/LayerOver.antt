@@ -27,7 +27,7 @@ use Rattle.layer_laws.specs.Layers.{IsOver}
 use Rattle.layer_laws.specs.Resets.{reset, old_writes}
 use Rattle.layer_laws.specs.Writing.{StateWrites, act_of, writing, Extends}
 use Rattle.layer_laws.proofs.WritingTheorems.{writing_layer}
-use Rattle.executor.specs.CoreSystem.{core_system}
+use Rattle.fair_rounds.specs.from_executor.CoreSystem.{core_system}
 use Rattle.meaning_executions.specs.Counting.{ints_eq}
 use Rattle.rules_table.specs.Layers.{all_two, same_write, is_prefix, writes_below, extends, standing, added, labels}
 use Rattle.rules_table.specs.Layers.{same_pattern, is_beside, is_layer, is_new}

@@ -25,7 +25,7 @@ use Rattle.layer_laws.specs.Resets.{reset}
 use Rattle.layer_laws.proofs.LayerTheorems.{unless_carried, ensures_carried, invariant_carried, leads_carried}
 use Rattle.layer_laws.proofs.LayerTheorems.{throughout_carried}
 use Rattle.layer_laws.proofs.ResetTheorems.{reset_is_state}
-use Rattle.executor.specs.CoreSystem.{core_system}
+use Rattle.fair_rounds.specs.from_executor.CoreSystem.{core_system}
 use Rattle.fair_rounds.specs.Records.{holding, meets, are_in_ranges, NamedAt}
 use Rattle.meaning_executions.specs.Counting.{ints_eq}
 use Rattle.fair_rounds.specs.Records.{KindStands}

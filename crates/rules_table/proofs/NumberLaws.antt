@@ -15,7 +15,7 @@ use Rattle.core_terms.specs.declared.documents.Arg.{Arg}
 use Rattle.core_terms.specs.declared.trees.CForm.{CForm}
 use Rattle.core_terms.specs.declared.trees.CTerm.{CTerm}
 use Rattle.core_terms.specs.declared.trees.Range.{Range}
-use Rattle.meaning_laws.proofs.NumberTests.{lt_passes}
+use Rattle.layer_laws.proofs.lemmas_from_meaning_laws.NumberTests.{lt_passes}
 use Rattle.fair_rounds.specs.Records.{are_in_ranges}
 use Rattle.rules_table.proofs.CalcSound.{range_at}
 use Rattle.meaning_executions.specs.Counting.{count_up}

@@ -17,13 +17,13 @@ use Rattle.fair_rounds.specs.Records.{holding, are_in_ranges, meets}
 use Rattle.fair_rounds.specs.declared.records.Record.{Record}
 use Rattle.rules_table.proofs.FormLaws.{imply_gives, all_append, all_join}
 use Rattle.rules_table.specs.Conclusion.{Conclusion}
-use Rattle.wp_substitution.specs.Exact.{next_passes, HoldsWhereDefined, HoldsBefore}
-use Rattle.wp_substitution.proofs.ExactLaws.{definedness, precondition}
+use Rattle.fixed_points.specs.from_wp_substitution.Exact.{next_passes, HoldsWhereDefined, HoldsBefore}
+use Rattle.fixed_points.proofs.lemmas_from_wp_substitution.ExactLaws.{definedness, precondition}
 use Rattle.core_terms.specs.Conditions.{StatementFits}
 use Rattle.rules_table.proofs.EachLaws.{from_all, each_at}
 use Rattle.rules_table.specs.Forms.{imply}
 use Rattle.rules_table.specs.Limits.{fits, is_provable}
-use Rattle.wp_substitution.specs.Preconditions.{defined_form, wp_form}
+use Rattle.fixed_points.specs.from_wp_substitution.Preconditions.{defined_form, wp_form}
 use Rattle.rules_table.specs.Sound.{IsSite, NamesNoParameter, NameNoParameter}
 use Rattle.rules_table.specs.Table.{Site, needs, go_on, with_each, under_with, goals_of, concluded, kept_form}
 use Rattle.rules_table.specs.Validity.{IsValid, AllValid}

@@ -32,9 +32,9 @@ use Rattle.core_terms.specs.Conditions.{bound_ranges, rule_ranges}
 use Rattle.core_terms.proofs.SameLaws.{same_form_is}
 use Rattle.core_terms.proofs.BoolLaws.{le_passes}
 use Rattle.fair_rounds.specs.declared.records.Record.{Record}
-use Rattle.executor.specs.CoreSystem.{core_system}
+use Rattle.fair_rounds.specs.from_executor.CoreSystem.{core_system}
 use Rattle.fair_rounds.specs.Records.{holding, meets, are_in_ranges, KindStands, Stands, IsKept}
-use Rattle.meaning_laws.proofs.StandingTheorems.{unless_narrows, ensures_narrows}
+use Rattle.layer_laws.proofs.lemmas_from_meaning_laws.StandingTheorems.{unless_narrows, ensures_narrows}
 use Rattle.fair_rounds.proofs.RecordTheorems.{invariant_kept}
 use Rattle.rules_table.specs.declared.led.Led.{Led}
 use Rattle.rules_table.specs.Conclusion.{Conclusion}

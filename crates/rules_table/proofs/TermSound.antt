@@ -22,13 +22,14 @@ use Rattle.core_terms.specs.declared.trees.CForm.{CForm}
 use Rattle.core_terms.specs.declared.trees.CTerm.{CTerm}
 use Rattle.core_terms.specs.declared.trees.CTerm.TheVariants.{Const, Param}
 use Rattle.core_terms.specs.declared.trees.Range.{Range}
-use Rattle.meaning_laws.proofs.StandingTheorems.{unless_kept, unless_narrows, leads_narrows, ensures_leads_kept}
+use Rattle.layer_laws.proofs.lemmas_from_meaning_laws.StandingTheorems.{unless_kept, unless_narrows, leads_narrows}
+use Rattle.layer_laws.proofs.lemmas_from_meaning_laws.StandingTheorems.{ensures_leads_kept}
 use Rattle.meaning_executions.specs.Systems.{kept}
-use Rattle.meaning_laws.specs.Tests.{both_hold, Implies, one_holds}
+use Rattle.layer_laws.specs.from_meaning_laws.Tests.{both_hold, Implies, one_holds}
 use Rattle.fair_rounds.specs.Records.{holding, are_in_ranges, meets, KindStands}
-use Rattle.executor.specs.CoreSystem.{core_system}
+use Rattle.fair_rounds.specs.from_executor.CoreSystem.{core_system}
 use Rattle.fair_rounds.specs.declared.records.Record.{Record}
-use Rattle.meaning_laws.proofs.KeptTheorems.{kept_runs}
+use Rattle.layer_laws.proofs.lemmas_from_meaning_laws.KeptTheorems.{kept_runs}
 use Rattle.meaning_executions.proofs.PropertyTheorems.{within_none}
 use Rattle.rules_table.proofs.CalcSound.{test_and, test_or, test_with, like, instance_is, instance_sound}
 use Rattle.rules_table.proofs.FormLaws.{value_any, imply_gives, all_append, all_join}
@@ -51,7 +52,7 @@ use Rattle.meaning_states.proofs.StepTheorems.{and_left, and_right, both_true}
 use Rattle.meaning_states.specs.State.{State, int_eq, in_range, is_state}
 use Rattle.meaning_executions.specs.Execution.{System}
 use Rattle.meaning_executions.specs.Properties.{Test, but_not, Everywhere, Unless, LeadsTo}
-use Rattle.meaning_laws.proofs.ProgressTheorems as progress
+use Rattle.layer_laws.proofs.lemmas_from_meaning_laws.ProgressTheorems as progress
 
 -- a node that met its own conditions gives what it should
 pub node_is : (site : Site) (ranges : List Range) (l m : Led) → node site ranges l ≡ Ok m → l ≡ m

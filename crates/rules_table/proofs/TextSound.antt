@@ -12,18 +12,18 @@ use Rattle.core_terms.specs.declared.programs.CSlot.{CSlot}
 use Rattle.core_terms.specs.declared.programs.CStmt.{CStmt}
 use Rattle.core_terms.specs.declared.trees.CForm.{CForm}
 use Rattle.core_terms.specs.declared.trees.CForm.TheVariants.{Top, Bottom}
-use Rattle.meaning_laws.specs.Stands.{UnlessStands, EachDefinedStep}
+use Rattle.layer_laws.specs.from_meaning_laws.Stands.{UnlessStands, EachDefinedStep}
 use Rattle.fair_rounds.specs.Records.{holding, are_in_ranges, meets, Stands}
-use Rattle.executor.specs.CoreSystem.{core_system}
+use Rattle.fair_rounds.specs.from_executor.CoreSystem.{core_system}
 use Rattle.fair_rounds.specs.declared.records.Record.{Record}
 use Rattle.rules_table.proofs.EachLaws.{from_all, each_at}
 use Rattle.rules_table.proofs.FormLaws.{imply_gives, all_join}
 use Rattle.rules_table.proofs.SiteLaws.{defined_exact, met, concluded_is, AreValid, are_valid, valid_at}
 use Rattle.rules_table.proofs.SiteLaws.{chosen_statement, meets_means, kept_after, closed_value}
 use Rattle.rules_table.specs.Conclusion.{Conclusion}
-use Rattle.wp_substitution.specs.Exact.{next_passes}
+use Rattle.fixed_points.specs.from_wp_substitution.Exact.{next_passes}
 use Rattle.rules_table.specs.Forms.{imply}
-use Rattle.wp_substitution.specs.Preconditions.{defined_form}
+use Rattle.fixed_points.specs.from_wp_substitution.Preconditions.{defined_form}
 use Rattle.fixed_points.specs.FixedForms.{fixed_part}
 use Rattle.fixed_points.proofs.WriteLaws.{led_back}
 use Rattle.fixed_points.proofs.FormLaws.{part_exact}

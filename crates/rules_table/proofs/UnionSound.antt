@@ -16,15 +16,17 @@ use Rattle.core_terms.specs.declared.programs.CSlot.{CSlot}
 use Rattle.core_terms.specs.declared.trees.CForm.{CForm}
 use Rattle.core_terms.specs.declared.trees.CForm.TheVariants.{Top, Bottom}
 use Rattle.core_terms.proofs.PartLaws.{value-Bottom}
-use Rattle.meaning_laws.proofs.StandingTheorems.{unless_narrows, ensures_narrows, defined_narrows}
-use Rattle.meaning_laws.proofs.StandingTheorems.{invariant_narrows}
-use Rattle.meaning_laws.proofs.UnionTheorems.{union_unless, union_ensures, union_ensures_second, union_defined}
-use Rattle.meaning_laws.proofs.UnionTheorems.{union_invariant, union_invariant_second}
-use Rattle.meaning_laws.specs.Stands.{UnlessStands, EnsuresStands, DefinedStands, InvariantStands}
+use Rattle.layer_laws.proofs.lemmas_from_meaning_laws.StandingTheorems.{unless_narrows, ensures_narrows}
+use Rattle.layer_laws.proofs.lemmas_from_meaning_laws.StandingTheorems.{defined_narrows}
+use Rattle.layer_laws.proofs.lemmas_from_meaning_laws.StandingTheorems.{invariant_narrows}
+use Rattle.layer_laws.proofs.lemmas_from_meaning_laws.UnionTheorems.{union_unless, union_ensures, union_ensures_second}
+use Rattle.layer_laws.proofs.lemmas_from_meaning_laws.UnionTheorems.{union_defined}
+use Rattle.layer_laws.proofs.lemmas_from_meaning_laws.UnionTheorems.{union_invariant, union_invariant_second}
+use Rattle.layer_laws.specs.from_meaning_laws.Stands.{UnlessStands, EnsuresStands, DefinedStands, InvariantStands}
 use Rattle.meaning_executions.specs.Systems.{together}
-use Rattle.meaning_laws.specs.Tests.{both_hold}
+use Rattle.layer_laws.specs.from_meaning_laws.Tests.{both_hold}
 use Rattle.fair_rounds.specs.Records.{holding, are_in_ranges, meets, NamedAt, EnsuresNamed, KindStands}
-use Rattle.executor.specs.CoreSystem.{core_system}
+use Rattle.fair_rounds.specs.from_executor.CoreSystem.{core_system}
 use Rattle.fair_rounds.specs.declared.records.Record.{Record}
 use Rattle.std.proofs.lemmas.List.{map-append}
 use Rattle.meaning_executions.proofs.ExecutionTheorems.{kept}

@@ -24,7 +24,7 @@ use Rattle.core_terms.specs.Conditions.{EachPair, IsSlot, IsStep, IsProof, IsPro
 use Rattle.core_terms.proofs.BoolLaws.{le_passes, or_first}
 use Rattle.fair_rounds.specs.declared.records.Record.{Record}
 use Rattle.meaning_executions.specs.Properties.{IsAlwaysDefined}
-use Rattle.executor.specs.CoreSystem.{core_system}
+use Rattle.fair_rounds.specs.from_executor.CoreSystem.{core_system}
 use Rattle.fair_rounds.specs.Records.{Holds, IsKept}
 use Rattle.fair_rounds.proofs.RecordTheorems.{defined_kept, kept_holds}
 use Rattle.rules_table.specs.Conclusion.{Conclusion}

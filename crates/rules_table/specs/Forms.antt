@@ -3,7 +3,7 @@ use Rattle.std.specs.Prelude.{List, [], ◌∷◌}
 use Rattle.core_terms.specs.declared.trees.CForm.{CForm}
 use Rattle.core_terms.specs.declared.trees.CForm.TheVariants.{Bottom}
 use Rattle.core_terms.specs.Folding.{or_form, not_form}
-use Rattle.wp_substitution.specs.Preconditions.{all_of}
+use Rattle.fixed_points.specs.from_wp_substitution.Preconditions.{all_of}
 
 -- a formula or one of these, from the left
 abbrev pub or_any : CForm → List CForm → CForm

@@ -7,7 +7,7 @@ use Rattle.meaning_states.specs.State.{State}
 use Rattle.core_terms.specs.declared.programs.CSlot.{CSlot}
 use Rattle.core_terms.specs.declared.programs.CProgram.{CProgram}
 use Rattle.meaning_executions.specs.Properties.{IsInvariant}
-use Rattle.executor.specs.CoreSystem.{core_system}
+use Rattle.fair_rounds.specs.from_executor.CoreSystem.{core_system}
 use Rattle.fair_rounds.specs.Records.{meets, are_in_ranges}
 use Rattle.fair_rounds.specs.declared.records.Record.{Record}
 use Rattle.layer_laws.specs.Layers.{IsOver}

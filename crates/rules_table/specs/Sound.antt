@@ -15,9 +15,9 @@ use Rattle.core_terms.specs.declared.documents.Ref.{Ref}
 use Rattle.core_terms.specs.declared.programs.CProgram.{CProgram}
 use Rattle.core_terms.specs.declared.trees.CForm.{CForm}
 use Rattle.core_terms.specs.declared.trees.Range.{Range}
-use Rattle.meaning_laws.specs.Stands.{LeadsStands}
+use Rattle.layer_laws.specs.from_meaning_laws.Stands.{LeadsStands}
 use Rattle.fair_rounds.specs.Records.{holding, are_in_ranges, meets, KindStands, Stands}
-use Rattle.executor.specs.CoreSystem.{core_system}
+use Rattle.fair_rounds.specs.from_executor.CoreSystem.{core_system}
 use Rattle.fair_rounds.specs.declared.records.Record.{Record}
 use Rattle.rules_table.specs.Conclusion.{Conclusion}
 use Rattle.rules_table.specs.Table.{Site, under_with, goals_of, defined_of, invariant_of, unless_of, fixed_of}

@@ -22,7 +22,7 @@ use Rattle.fair_rounds.specs.declared.records.Record.{Record}
 use Rattle.rules_table.specs.Conclusion.{Conclusion}
 use Rattle.rules_table.specs.Forms.{any_of, imply}
 use Rattle.rules_table.specs.Limits.{fits, is_provable}
-use Rattle.wp_substitution.specs.Preconditions.{all_of, defined_form, wp_form}
+use Rattle.fixed_points.specs.from_wp_substitution.Preconditions.{all_of, defined_form, wp_form}
 use Rattle.fixed_points.specs.FixedForms.{fixed_part}
 use Rattle.rules_table.specs.Validity.{Goal}
 use Rattle.meaning_states.specs.State.{int_eq}

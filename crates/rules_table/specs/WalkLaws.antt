@@ -10,7 +10,7 @@ use Rattle.core_terms.specs.declared.documents.CProof.{CProof}
 use Rattle.core_terms.specs.declared.documents.CDocument.{CDocument}
 use Rattle.core_terms.specs.Conditions.{IsCoreDocument}
 use Rattle.fair_rounds.specs.declared.records.Record.{Record}
-use Rattle.executor.specs.CoreSystem.{core_system}
+use Rattle.fair_rounds.specs.from_executor.CoreSystem.{core_system}
 use Rattle.fair_rounds.specs.Records.{Holds}
 use Rattle.rules_table.specs.Validity.{AllValid}
 use Rattle.rules_table.specs.Layers.{is_layer}

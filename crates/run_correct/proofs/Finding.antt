@@ -21,8 +21,8 @@ use Rattle.expand_declarations.specs.References.{core_schedule}
 use Rattle.schedule_replay.specs.Lines.{word_text}
 use Rattle.run_traces.specs.Programs.{is_called, program_called, program_of, scheduled_program}
 use Rattle.expand_correct.specs.Exact.Parts.{EachItem}
-use Rattle.expand_documents.specs.Cores.{core_document}
-use Rattle.expand_documents.specs.Faults.{expansion_fault}
+use Rattle.expand_correct.specs.from_expand_documents.Cores.{core_document}
+use Rattle.expand_correct.specs.from_expand_documents.Faults.{expansion_fault}
 use Rattle.expand_correct.specs.Preserved.Meaning.{IsCoreProgramOf}
 use Rattle.expand_correct.proofs.Preserved.Matching.{programs_match, cores_match}
 use Rattle.meaning_documents.specs.Setting.{programs_among}

@@ -1,3 +1,4 @@
+pub use Rattle.expand_correct.proofs as lemmas_from_expand_correct
 pub mod Lists
 pub mod Labels
 pub mod Slots

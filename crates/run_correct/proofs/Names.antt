@@ -23,7 +23,7 @@ use Rattle.schedule_replay.specs.Lines.{word_text, indices_text, instance_text a
 use Rattle.schedule_replay.specs.Lines.{chosen_text as core_chosen_text}
 use Rattle.schedule_replay.specs.Schedules.{names_instance as is_core_named, place_of as core_place_of}
 use Rattle.expand_correct.specs.Exact.Parts.{EachItem}
-use Rattle.expand_documents.specs.Cores.{core_document}
+use Rattle.expand_correct.specs.from_expand_documents.Cores.{core_document}
 use Rattle.meaning_documents.specs.Setting.{programs_among}
 use Rattle.run_correct.specs.Shown.{document_places, with_shown, shown_slots}
 use Rattle.run_correct.specs.Names.{instance_text, chosen_text, chooses_instance, place_of}

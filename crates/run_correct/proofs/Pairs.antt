@@ -9,7 +9,7 @@ use Rattle.expand_declarations.specs.Texts.{Texts}
 use Rattle.expand_declarations.specs.WordNumbers.{with_texts, word_number}
 use Rattle.expand_correct.specs.Declared.WordLaws.{is_among}
 use Rattle.expand_correct.specs.Exact.Parts.{EachItem}
-use Rattle.expand_documents.specs.Cores.{core_named}
+use Rattle.expand_correct.specs.from_expand_documents.Cores.{core_named}
 use Rattle.run_correct.specs.Shown.{Showing, shown_named}
 use Rattle.run_correct.specs.Laws.{core_name, numbered_name}
 use Rattle.run_correct.proofs.Lists.{same_nat, same_text, text_same, some_same, numbers_as_texts}

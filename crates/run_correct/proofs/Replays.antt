@@ -28,8 +28,8 @@ use Rattle.run_traces.specs.Programs.{scheduled_program}
 use Rattle.run_traces.specs.Answers.{CoreReplayTraces}
 use Rattle.run_traces.proofs.FindingLaws.{named_statements, no_schedule}
 use Rattle.expand_correct.specs.Exact.Parts.{EachItem}
-use Rattle.expand_documents.specs.Cores.{core_document}
-use Rattle.expand_documents.specs.Faults.{expansion_fault}
+use Rattle.expand_correct.specs.from_expand_documents.Cores.{core_document}
+use Rattle.expand_correct.specs.from_expand_documents.Faults.{expansion_fault}
 use Rattle.run_correct.specs.Names.{place_of}
 use Rattle.run_correct.specs.Answers.{ReplayTraces, IsUnknown}
 use Rattle.run_correct.specs.Laws.{NamesMatch, ReplaysSay}

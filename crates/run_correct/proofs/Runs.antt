@@ -9,8 +9,8 @@ use Rattle.schedule_replay.specs.Schedules.{turns}
 use Rattle.run_traces.specs.declared.trace_error.TraceError.{TraceError}
 use Rattle.run_traces.specs.declared.error.RunError.{RunError}
 use Rattle.run_traces.specs.Answers.{CoreRunTraces}
-use Rattle.expand_documents.specs.Cores.{core_document}
-use Rattle.expand_documents.specs.Faults.{expansion_fault}
+use Rattle.expand_correct.specs.from_expand_documents.Cores.{core_document}
+use Rattle.expand_correct.specs.from_expand_documents.Faults.{expansion_fault}
 use Rattle.run_correct.specs.Answers.{Traces, RunTraces}
 use Rattle.run_correct.specs.Laws.{RunsSay}
 use Rattle.run_correct.proofs.Texts.{traces_say}

@@ -29,7 +29,7 @@ use Rattle.schedule_replay.specs.Lines.{slot_text as core_slot_text}
 use Rattle.schedule_replay.specs.Lines.{known_slot_text}
 use Rattle.expand_correct.specs.Exact.Parts.{EachItem}
 use Rattle.expand_correct.proofs.Exact.Statements.{everywhere_joined}
-use Rattle.expand_documents.specs.Cores.{core_document}
+use Rattle.expand_correct.specs.from_expand_documents.Cores.{core_document}
 use Rattle.run_correct.specs.Shown.{SlotOfVariable, places_of, new_places, document_places, value_text}
 use Rattle.run_correct.specs.Shown.{place_text, slot_text, is_slot_among}
 use Rattle.run_correct.proofs.Lists.{weaker, behind, none_of, text_same, each_among, word_is, numbers_as_texts}

@@ -46,8 +46,9 @@ use Rattle.expand_rules.specs.Programs.{core_statement, plain_core}
 use Rattle.expand_correct.proofs.Values.Operations.{two}
 use Rattle.expand_correct.specs.Exact.Parts.{EachItem}
 use Rattle.expand_correct.proofs.Exact.Statements.{everywhere_joined}
-use Rattle.expand_documents.specs.Cores.{core_named, core_union, core_program, with_core, with_cores, document_scope}
-use Rattle.expand_documents.specs.Cores.{core_document}
+use Rattle.expand_correct.specs.from_expand_documents.Cores.{core_named, core_union, core_program, with_core}
+use Rattle.expand_correct.specs.from_expand_documents.Cores.{with_cores, document_scope}
+use Rattle.expand_correct.specs.from_expand_documents.Cores.{core_document}
 use Rattle.expand_correct.proofs.Preserved.Matching.{known_name}
 use Rattle.expand_correct.proofs.Preserved.Pairs.{is_named, named_some, named_with, entered_with}
 use Rattle.run_correct.specs.Shown.{SlotOfVariable, document_places, Showing, is_slot_among, shown_named, shown_by}

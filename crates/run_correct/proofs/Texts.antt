@@ -31,7 +31,7 @@ use Rattle.run_traces.specs.Traces.{steps_text as core_steps_text}
 use Rattle.run_traces.proofs.TraceTheorems.{same_trace}
 use Rattle.run_traces.proofs.TraceAnswers.{program_in}
 use Rattle.run_traces.proofs.FindingLaws.{found_in}
-use Rattle.expand_documents.specs.Cores.{core_document}
+use Rattle.expand_correct.specs.from_expand_documents.Cores.{core_document}
 use Rattle.expand_correct.specs.Preserved.Meaning.{IsCoreProgramOf}
 use Rattle.expand_correct.proofs.Preserved.Meaning.{slots_match, programs_alike}
 use Rattle.run_correct.specs.Traces.{source_system, first_state, heading_line, state_line, step_line, steps_text}

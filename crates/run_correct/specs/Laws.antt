@@ -18,8 +18,8 @@ use Rattle.run_traces.specs.TraceAnswers.{CoreTraces}
 use Rattle.run_traces.specs.declared.error.RunError.{RunError}
 use Rattle.run_traces.specs.Answers.{CoreRuns, CoreReplays}
 use Rattle.expand_correct.specs.Exact.Parts.{EachItem}
-use Rattle.expand_documents.specs.Cores.{core_document}
-use Rattle.expand_documents.specs.Faults.{expansion_fault}
+use Rattle.expand_correct.specs.from_expand_documents.Cores.{core_document}
+use Rattle.expand_correct.specs.from_expand_documents.Faults.{expansion_fault}
 use Rattle.expand_correct.specs.Preserved.Meaning.{IsCoreProgramOf}
 use Rattle.run_correct.specs.Shown.{shown_slots}
 use Rattle.run_correct.specs.Traces.{first_state}

@@ -11,7 +11,7 @@ use Rattle.executor.specs.StartState.{start_state}
 use Rattle.schedule_replay.specs.declared.heading.Heading.{Heading}
 use Rattle.schedule_replay.specs.Lines.{rounds_line}
 use Rattle.run_traces.specs.Traces.{following}
-use Rattle.expand_documents.specs.Cores.{core_document}
+use Rattle.expand_correct.specs.from_expand_documents.Cores.{core_document}
 use Rattle.run_correct.specs.Names.{chosen_text}
 use Rattle.run_correct.specs.Shown.{shown_text}
 

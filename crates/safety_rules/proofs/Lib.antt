@@ -1,3 +1,6 @@
+pub use Rattle.obligations.proofs as lemmas_from_obligations
+pub use Rattle.rules_table.proofs as lemmas_from_rules_table
+pub use Rattle.wp_substitution.proofs as lemmas_from_wp_substitution
 pub mod AgreeLaws
 pub mod AnswerLaws
 pub mod ArgumentLaws

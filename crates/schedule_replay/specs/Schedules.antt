@@ -5,7 +5,7 @@ use Rattle.std.specs.Option.{option_map, option_map_or}
 use Rattle.std.specs.List.{position_from, range_with_len}
 use Rattle.std.specs.Ordering.{int_eq}
 use Rattle.std.specs.Cmp.Lexicographic.{pointwise}
-use Rattle.case_tables.specs.declared.code_table.Code.{Code}
+use Rattle.core_terms.specs.from_case_tables.declared.code_table.Code.{Code}
 use Rattle.core_terms.specs.declared.programs.CStmt.{CStmt}
 use Rattle.core_terms.specs.declared.documents.Choice.{Choice}
 use Rattle.core_terms.specs.declared.documents.CSchedule.{CSchedule}

@@ -4,7 +4,7 @@ ghost use Rattle.core_terms.specs.Conditions.{EachPair, AreApart, IsCoreDocument
 ghost use Rattle.schedule_replay.specs.Schedules as named;
 
 use crate::schedule::ScheduleError;
-use case_tables::Code;
+use core_terms::from_case_tables::Code;
 use core_terms::{CDocument, CStmt, Choice};
 use std::alloc::{AllocError, Global};
 use std::cmp::Ordering;

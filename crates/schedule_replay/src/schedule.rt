@@ -1,7 +1,7 @@
 // Which instance each step executes.
 ghost use Rattle.std.specs.Prelude.{◌≡◌, ◌%◌, ◌<◌};
 
-use case_tables::Code;
+use core_terms::from_case_tables::Code;
 use std::alloc::AllocError;
 use thiserror::Error;
 

@@ -33,15 +33,15 @@ use Rattle.rules_table.specs.Walk.{Plan, program_of}
 use Rattle.rules_table.proofs.WalkTheorems.{walk_sound}
 use Rattle.meaning_documents.specs.Steps.{claim_kind, ProofStep, of_proof, document_steps}
 use Rattle.meaning_executions.specs.Pairwise.{Pairwise}
-use Rattle.expand_declarations.specs.References.{param_range}
-use Rattle.expand_rules.specs.Forming.{Scope}
-use Rattle.expand_steps.specs.Steps.{claim_p, claim_q, step_place}
-use Rattle.expand_declarations.specs.WordNumbers.{document_words}
-use Rattle.expand_documents.specs.Cores.{document_scope, core_document}
-use Rattle.expand_correct.specs.Preserved.Claims.{SameTruth, ClaimSays}
-use Rattle.expand_correct.proofs.Preserved.Arguments.{claims_say}
-use Rattle.expand_correct.proofs.Preserved.Meaning.{programs_alike}
-use Rattle.expand_correct.proofs.Preserved.Proofs.{proofs_found}
+use Rattle.expand_fits_parts.specs.from_expand_declarations.References.{param_range}
+use Rattle.expand_fits_parts.specs.from_expand_rules.Forming.{Scope}
+use Rattle.expand_fits_parts.specs.from_expand_steps.Steps.{claim_p, claim_q, step_place}
+use Rattle.expand_fits_parts.specs.from_expand_declarations.WordNumbers.{document_words}
+use Rattle.expand_fits_parts.specs.from_expand_documents.Cores.{document_scope, core_document}
+use Rattle.expand_fits_parts.specs.from_expand_correct.Preserved.Claims.{SameTruth, ClaimSays}
+use Rattle.expand_fits_parts.proofs.lemmas_from_expand_correct.Preserved.Arguments.{claims_say}
+use Rattle.expand_fits_parts.proofs.lemmas_from_expand_correct.Preserved.Meaning.{programs_alike}
+use Rattle.expand_fits_parts.proofs.lemmas_from_expand_correct.Preserved.Proofs.{proofs_found}
 use Rattle.soundness.specs.PlanSteps.{IsRecordOf}
 use Rattle.soundness.specs.Written.{is_claim, AreClaims}
 use Rattle.soundness.specs.Properties.{core_of}

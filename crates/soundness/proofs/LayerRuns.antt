@@ -25,14 +25,14 @@ use Rattle.rules_table.specs.Layers.{is_layer, is_new}
 use Rattle.rules_table.proofs.WalkTheorems.{layers_stand}
 use Rattle.rules_table.proofs.EachLaws.{from_all, each_at, found_in}
 use Rattle.rules_table.proofs.LayerOver.{layer_is_over}
-use Rattle.expand_declarations.specs.WordNumbers.{document_words, word_number}
-use Rattle.expand_declarations.specs.References.{ref_program}
-use Rattle.expand_steps.specs.ProofTerms.{ref_in}
-use Rattle.expand_steps.specs.Steps.{step_place, core_rule, core_step, core_proof}
-use Rattle.expand_documents.specs.Cores.{document_scope, core_document}
-use Rattle.expand_correct.specs.Preserved.Meaning.{IsCoreProgramOf}
-use Rattle.expand_correct.proofs.Preserved.Meaning.{programs_alike}
-use Rattle.expand_correct.proofs.Preserved.Proofs.{proofs_match}
+use Rattle.expand_fits_parts.specs.from_expand_declarations.WordNumbers.{document_words, word_number}
+use Rattle.expand_fits_parts.specs.from_expand_declarations.References.{ref_program}
+use Rattle.expand_fits_parts.specs.from_expand_steps.ProofTerms.{ref_in}
+use Rattle.expand_fits_parts.specs.from_expand_steps.Steps.{step_place, core_rule, core_step, core_proof}
+use Rattle.expand_fits_parts.specs.from_expand_documents.Cores.{document_scope, core_document}
+use Rattle.expand_fits_parts.specs.from_expand_correct.Preserved.Meaning.{IsCoreProgramOf}
+use Rattle.expand_fits_parts.proofs.lemmas_from_expand_correct.Preserved.Meaning.{programs_alike}
+use Rattle.expand_fits_parts.proofs.lemmas_from_expand_correct.Preserved.Proofs.{proofs_match}
 use Rattle.soundness.specs.Layers.{LayersProject, SuperposedProject}
 use Rattle.soundness.proofs.Sources.{mapped_at, proof_among}
 

@@ -7,14 +7,15 @@ use Rattle.unity_syntax.specs.declared.document.Document.{Document}
 use Rattle.meaning_documents.specs.Claims.{Claims}
 use Rattle.fair_rounds.specs.declared.records.Record.{Record}
 use Rattle.rules_table.proofs.EachLaws.{Each}
-use Rattle.expand_declarations.specs.Texts.{Texts, part_texts, step_texts, schedule_texts, document_texts}
-use Rattle.expand_declarations.specs.WordNumbers.{document_words, word_number}
-use Rattle.expand_correct.specs.Declared.WordLaws.{is_among}
-use Rattle.expand_correct.proofs.Declared.Found.{words_found}
+use Rattle.expand_fits_parts.specs.from_expand_declarations.Texts.{Texts, part_texts, step_texts, schedule_texts}
+use Rattle.expand_fits_parts.specs.from_expand_declarations.Texts.{document_texts}
+use Rattle.expand_fits_parts.specs.from_expand_declarations.WordNumbers.{document_words, word_number}
+use Rattle.expand_fits_parts.specs.from_expand_correct.Declared.WordLaws.{is_among}
+use Rattle.expand_fits_parts.proofs.lemmas_from_expand_correct.Declared.Found.{words_found}
 use Rattle.expand_fits_parts.proofs.Conditions.Programs.{each_has, last_has, itself}
 use Rattle.meaning_executions.specs.Pairwise.{Pairwise}
 use Rattle.meaning_documents.specs.Steps.{ProofStep, document_steps}
-use Rattle.expand_documents.specs.Cores.{core_document}
+use Rattle.expand_fits_parts.specs.from_expand_documents.Cores.{core_document}
 use Rattle.schedule_replay.specs.Lines.{word_text}
 use Rattle.cli_texts.specs.Verdicts.{kind_text, step_line}
 use Rattle.soundness.specs.Properties.{StepIsProved}

@@ -6,12 +6,12 @@ use Rattle.unity_syntax.specs.declared.document.Part.{Part}
 use Rattle.unity_syntax.specs.declared.document.Document.{Document}
 use Rattle.std.proofs.lemmas.List.{map-append}
 use Rattle.rules_table.proofs.EachLaws.{Each, each_join, each_map}
-use Rattle.expand_declarations.specs.WordNumbers.{document_words, word_number}
+use Rattle.expand_fits_parts.specs.from_expand_declarations.WordNumbers.{document_words, word_number}
 use Rattle.meaning_documents.specs.Steps.{proofs_among, ProofStep, of_proof, proof_steps, document_steps}
 use Rattle.meaning_executions.specs.Pairwise.{Pairwise}
-use Rattle.expand_steps.specs.Steps.{core_step, core_proof}
-use Rattle.expand_documents.specs.Cores.{document_scope, core_document}
-use Rattle.expand_correct.proofs.Preserved.Proofs.{proofs_match}
+use Rattle.expand_fits_parts.specs.from_expand_steps.Steps.{core_step, core_proof}
+use Rattle.expand_fits_parts.specs.from_expand_documents.Cores.{document_scope, core_document}
+use Rattle.expand_fits_parts.proofs.lemmas_from_expand_correct.Preserved.Proofs.{proofs_match}
 use Rattle.soundness.specs.PlanSteps.{of_program, core_steps}
 use Rattle.soundness.specs.Properties.{core_of}
 

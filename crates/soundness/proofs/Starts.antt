@@ -22,11 +22,11 @@ use Rattle.executor.proofs.StartStateLaws.{start_is_state}
 use Rattle.rules_table.specs.Walk.{program_of}
 use Rattle.rules_table.proofs.EachLaws.{from_all, each_at, found_in}
 use Rattle.rules_table.proofs.WalkTheorems.{walk_sound}
-use Rattle.expand_declarations.specs.WordNumbers.{document_words, word_number}
-use Rattle.expand_steps.specs.Steps.{core_proof}
-use Rattle.expand_documents.specs.Cores.{document_scope, core_document}
-use Rattle.expand_correct.proofs.Preserved.Meaning.{programs_alike}
-use Rattle.expand_correct.proofs.Preserved.Proofs.{proofs_match, proofs_found}
+use Rattle.expand_fits_parts.specs.from_expand_declarations.WordNumbers.{document_words, word_number}
+use Rattle.expand_fits_parts.specs.from_expand_steps.Steps.{core_proof}
+use Rattle.expand_fits_parts.specs.from_expand_documents.Cores.{document_scope, core_document}
+use Rattle.expand_fits_parts.proofs.lemmas_from_expand_correct.Preserved.Meaning.{programs_alike}
+use Rattle.expand_fits_parts.proofs.lemmas_from_expand_correct.Preserved.Proofs.{proofs_match, proofs_found}
 use Rattle.meaning_documents.specs.Steps.{proofs_among}
 use Rattle.soundness.specs.Executions.{start_meets, ExecutionsExist}
 use Rattle.soundness.proofs.PlanRecords.{defined_record}

@@ -11,8 +11,8 @@ use Rattle.core_terms.specs.declared.programs.CProgram.{CProgram}
 use Rattle.core_terms.specs.Values.{form_value}
 use Rattle.executor.specs.StartState.{start_state}
 use Rattle.rules_table.specs.Walk.{Plan}
-use Rattle.expand_documents.specs.Cores.{core_document}
-use Rattle.expand_correct.specs.Preserved.Meaning.{IsCoreProgramOf}
+use Rattle.expand_fits_parts.specs.from_expand_documents.Cores.{core_document}
+use Rattle.expand_fits_parts.specs.from_expand_correct.Preserved.Meaning.{IsCoreProgramOf}
 use Rattle.soundness.specs.Properties.{IsValidlyPlanned}
 
 -- the start state of a program meets its initially section

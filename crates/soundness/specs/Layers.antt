@@ -15,9 +15,9 @@ use Rattle.core_terms.specs.Conditions.{IsCoreDocument}
 use Rattle.core_terms.specs.declared.programs.CProgram.{CProgram}
 use Rattle.rules_table.specs.Layers.{is_layer, is_new}
 use Rattle.rules_table.specs.Walk.{Plan}
-use Rattle.expand_declarations.specs.References.{ref_program}
-use Rattle.expand_documents.specs.Cores.{core_document}
-use Rattle.expand_correct.specs.Preserved.Meaning.{IsCoreProgramOf}
+use Rattle.expand_fits_parts.specs.from_expand_declarations.References.{ref_program}
+use Rattle.expand_fits_parts.specs.from_expand_documents.Cores.{core_document}
+use Rattle.expand_fits_parts.specs.from_expand_correct.Preserved.Meaning.{IsCoreProgramOf}
 use Rattle.soundness.specs.Properties.{IsValidlyPlanned}
 
 -- an execution of y, projected on x: without the choices from the number of x's instances on, with the states after

@@ -10,10 +10,10 @@ use Rattle.core_terms.specs.Conditions.{IsCoreDocument}
 use Rattle.fair_rounds.specs.declared.records.Record.{Record}
 use Rattle.rules_table.specs.Validity.{AllValid}
 use Rattle.rules_table.specs.Walk.{Plan, walk_of}
-use Rattle.expand_declarations.specs.WordNumbers.{document_words, word_number}
-use Rattle.expand_documents.specs.Cores.{core_document}
-use Rattle.expand_documents.specs.Faults.{expansion_fault}
-use Rattle.expand_correct.specs.Preserved.Claims.{step_in}
+use Rattle.expand_fits_parts.specs.from_expand_declarations.WordNumbers.{document_words, word_number}
+use Rattle.expand_fits_parts.specs.from_expand_documents.Cores.{core_document}
+use Rattle.expand_fits_parts.specs.from_expand_documents.Faults.{expansion_fault}
+use Rattle.expand_fits_parts.specs.from_expand_correct.Preserved.Claims.{step_in}
 use Rattle.soundness.specs.PlanSteps.{CoreStep, of_program, IsRecordOf}
 use Rattle.soundness.specs.Written.{AreClaims}
 

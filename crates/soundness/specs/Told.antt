@@ -5,9 +5,9 @@ use Rattle.meaning_documents.specs.Claims.{Claims}
 use Rattle.core_terms.specs.declared.programs.CProgram.{CProgram}
 use Rattle.meaning_documents.specs.Steps.{claim_kind, ProofStep, document_steps}
 use Rattle.meaning_executions.specs.Pairwise.{Pairwise}
-use Rattle.expand_documents.specs.Cores.{core_document}
+use Rattle.expand_fits_parts.specs.from_expand_documents.Cores.{core_document}
 use Rattle.rules_table.specs.Walk as walk
-use Rattle.proof_plans.specs.declared.plans.Plan.{Plan}
+use Rattle.cli_texts.specs.from_proof_plans.declared.plans.Plan.{Plan}
 use Rattle.cli_texts.specs.Verdicts.{kind_text, accepted_text}
 use Rattle.soundness.specs.Properties.{IsValidlyPlanned}
 use Rattle.soundness.specs.Written.{AreClaims}

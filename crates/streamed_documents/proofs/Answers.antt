@@ -27,7 +27,7 @@ use Rattle.certificate_events.specs.Events.{section_events}
 use Rattle.certificate_reading.specs.Certificates.{section_of, certificate_of, certificates_of}
 use Rattle.certificate_reading.proofs.Whole.{are_whole_trees}
 use Rattle.core_terms.specs.declared.documents.CDocument.{CDocument}
-use Rattle.expand_documents.specs.Cores.{core_document}
+use Rattle.quantified_assign.specs.from_expand_documents.Cores.{core_document}
 use Rattle.event_judge.specs.declared.judge.Judge.{Judge}
 use Rattle.event_judge.specs.Judges.{JudgeStandsFor}
 use Rattle.event_judge.specs.Told.{certs_events}

@@ -9,11 +9,11 @@ use Rattle.unity_syntax.specs.declared.certificate.Certificates.{Certificates}
 use Rattle.core_terms.specs.declared.documents.CDocument.{CDocument}
 use Rattle.certificate_events.specs.Events as written
 use Rattle.certificate_reading.specs.Certificates.{number_of, pair_of, node_of, certificate_of}
-use Rattle.event_checker.specs.Events as checked
+use Rattle.event_judge.specs.from_event_checker.Events as checked
 use Rattle.event_judge.specs.declared.judge.Judge.{Judge}
 use Rattle.event_judge.specs.Judges.{JudgeStands, JudgeStandsFor}
 use Rattle.event_judge.specs.Told.{cert_events, certs_events, told_by, told_more}
-use Rattle.event_checker.proofs.NodeLaws.{events-tell-nodes}
+use Rattle.event_judge.proofs.lemmas_from_event_checker.NodeLaws.{events-tell-nodes}
 use Rattle.event_judge.proofs.ToldLaws.{told-last, events-tell-certificates}
 
 number_same : (minus : Bool) (n : ℕ) → written.number_of minus n ≡ number_of minus n

@@ -24,8 +24,8 @@ use Rattle.unity_parser.specs.Fronts.{word_at, empty_section, front_tokens}
 use Rattle.unity_parser.proofs.Parsed.{words_within}
 use Rattle.certificate_events.proofs.Back.{one_token}
 use Rattle.names_rules.specs.WellNamed.{IsWellNamed}
-use Rattle.expand_documents.specs.Cores.{core_document}
-use Rattle.expand_documents.specs.Faults.{expansion_fault}
+use Rattle.quantified_assign.specs.from_expand_documents.Cores.{core_document}
+use Rattle.quantified_assign.specs.from_expand_documents.Faults.{expansion_fault}
 use Rattle.expand_fits.proofs.Parsed.Numerals.{SmallTokens}
 use Rattle.expand_fits.proofs.Parsed.Reading.{sound_by}
 use Rattle.expand_fits.proofs.Sound.{documents_sound}

@@ -1,3 +1,4 @@
+pub use Rattle.expand_fits.proofs as lemmas_from_expand_fits
 pub mod FirstFaults
 pub mod FrontCores
 pub mod Passing

@@ -24,8 +24,8 @@ use Rattle.unity_parser.specs.Document.{IsDocument}
 use Rattle.certificate_reading.specs.Certificates.{certificates_of}
 use Rattle.unity_parser.specs.Fronts.{front_tokens}
 use Rattle.names_rules.specs.WellNamed.{IsWellNamed}
-use Rattle.expand_documents.specs.Cores.{core_document}
-use Rattle.expand_documents.specs.Faults.{expansion_fault}
+use Rattle.quantified_assign.specs.from_expand_documents.Cores.{core_document}
+use Rattle.quantified_assign.specs.from_expand_documents.Faults.{expansion_fault}
 use Rattle.front_documents.specs.Laws.{IsFrontDocument}
 use Rattle.streamed_documents.specs.declared.fronts.Opened.{Opened}
 use Rattle.streamed_documents.specs.declared.fronts.Listener.{Listener}

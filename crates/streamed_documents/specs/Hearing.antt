@@ -4,8 +4,8 @@ use Rattle.unity_base.specs.declared.events.CertEvent.{CertEvent}
 use Rattle.core_terms.specs.declared.documents.CDocument.{CDocument}
 use Rattle.unity_syntax.specs.declared.document.Document.{Document}
 use Rattle.names_rules.specs.WellNamed.{IsWellNamed}
-use Rattle.expand_documents.specs.Cores.{core_document}
-use Rattle.expand_documents.specs.Faults.{expansion_fault}
+use Rattle.quantified_assign.specs.from_expand_documents.Cores.{core_document}
+use Rattle.quantified_assign.specs.from_expand_documents.Faults.{expansion_fault}
 use Rattle.event_judge.specs.declared.judge.Judge.{Judge}
 use Rattle.event_judge.specs.Judges.{JudgeIsReady, JudgeStandsFor}
 use Rattle.streamed_documents.specs.declared.behind.Pending.{Pending}

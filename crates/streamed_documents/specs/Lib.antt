@@ -1,3 +1,4 @@
+pub use Rattle.quantified_assign.specs.from_expand_documents
 pub mod Found
 pub mod Fronts
 pub mod Hearing

@@ -5,7 +5,7 @@ use Rattle.unity_syntax.specs.declared.document.Document.{Document}
 use Rattle.unity_parser.specs.Document.{IsDocument, IsFault}
 use Rattle.names_rules.specs.Reading.{Fault, earlier}
 use Rattle.names_rules.specs.WellNamed.{IsWellNamed, name_fault}
-use Rattle.expand_documents.specs.Faults.{expansion_fault}
+use Rattle.quantified_assign.specs.from_expand_documents.Faults.{expansion_fault}
 
 -- the bytes are this document, and neither its names nor its expansion have a fault
 pub record IsWellFormed (bytes : List ℕ) (d : Document) : Type 0 where

@@ -3,8 +3,8 @@ ghost use Rattle.std.specs.Prelude.{◌≡◌, None, IfOk, IfErr, OnOk};
 ghost use Rattle.names_rules.specs.WellNamed.{IsWellNamed};
 ghost use Rattle.names_rules.specs.Answers.{Stops};
 ghost use Rattle.names_rules.specs.declared.named.NameFault.{NameFault};
-ghost use Rattle.expand_documents.specs.Cores.{core_document};
-ghost use Rattle.expand_documents.specs.Faults.{expansion_fault};
+ghost use Rattle.quantified_assign.specs.from_expand_documents.Cores.{core_document};
+ghost use Rattle.quantified_assign.specs.from_expand_documents.Faults.{expansion_fault};
 ghost use Rattle.streamed_documents.specs.WellFormed.{document_fault};
 
 use core_terms::CDocument;

@@ -9,7 +9,7 @@ use Rattle.std.proofs.lemmas.Bool.Decides.{eqb_tells}
 use Rattle.std.proofs.lemmas.List.{get_or-set_same, get_or-set_other, take_more, take_all, take-append-drop}
 use Rattle.core_terms.proofs.BoolLaws.{and_left, and_right}
 use Rattle.core_terms.specs.declared.programs.CStmt.{CStmt}
-use Rattle.rules_table.specs.Layers.{labels, labels_agree, same_pattern}
+use Rattle.safety_rules.specs.from_rules_table.Layers.{labels, labels_agree, same_pattern}
 use Rattle.superposition.specs.Labels.{partner_in, first_by, first_over, first_below, NotesLabels, NotesMore}
 use Rattle.superposition.specs.Labels.{TellsTaken}
 use Rattle.superposition.specs.Patterns.{label_pairs}

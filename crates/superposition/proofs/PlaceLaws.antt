@@ -5,7 +5,7 @@ use Rattle.std.specs.Prelude.{filter}
 use Rattle.std.proofs.Math.Seq.{drop-cons}
 use Rattle.std.proofs.lemmas.Bool.Decides.{eqb_tells}
 use Rattle.core_terms.specs.declared.programs.CStmt.{CStmt}
-use Rattle.rules_table.specs.Layers.{all_two, label_over}
+use Rattle.safety_rules.specs.from_rules_table.Layers.{all_two, label_over}
 
 -- what is left of a list is tested against those items of another that are kept
 abbrev pub Matched : {A : Type 0} → (A → A → Bool) → (A → Bool) → List A → List A → ℕ → ℕ → Type 0

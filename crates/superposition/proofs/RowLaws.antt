@@ -3,9 +3,10 @@ use Rattle.std.proofs.Common.{◌≡◌, nat_eq, [], ◌∷◌, true, false, not
 use Rattle.case_tables.specs.declared.code_table.Code.{Code}
 use Rattle.core_terms.specs.declared.programs.CProgram.{CProgram}
 use Rattle.fair_rounds.specs.declared.records.Record.{Record}
-use Rattle.rules_table.specs.Layers.{is_carried, is_layer, names_old, record_over, starts_below, superpose_of}
-use Rattle.rules_table.specs.Table.{Site, concluded}
-use Rattle.rules_table.proofs.RowEquations.{superpose-is}
+use Rattle.safety_rules.specs.from_rules_table.Layers.{is_carried, is_layer, names_old, record_over, starts_below}
+use Rattle.safety_rules.specs.from_rules_table.Layers.{superpose_of}
+use Rattle.safety_rules.specs.from_rules_table.Table.{Site, concluded}
+use Rattle.safety_rules.proofs.lemmas_from_rules_table.RowEquations.{superpose-is}
 use Rattle.safety_rules.proofs.AnswerLaws.{needs_met, needs_not, refused, given_by}
 use Rattle.safety_rules.specs.Answers.{RuleAnswers}
 use Rattle.safety_rules.specs.declared.places.Derived.{Derived}

@@ -12,7 +12,7 @@ use Rattle.core_terms.specs.Trees.{same_term}
 use Rattle.core_terms.specs.declared.trees.CTerm.{CTerm}
 use Rattle.meaning_executions.specs.Counting.{ints_eq}
 use Rattle.meaning_states.specs.State.{int_eq}
-use Rattle.rules_table.proofs.SameTerms.{same_term_is, same_term_self}
+use Rattle.safety_rules.proofs.lemmas_from_rules_table.SameTerms.{same_term_is, same_term_self}
 
 -- a test that passes exactly at equal trees is the test of equal trees
 pub same_term_told : (b : Bool) (t u : CTerm) → IsTrue b ↔ (t ≡ u) → b ≡ same_term t u

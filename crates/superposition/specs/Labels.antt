@@ -3,7 +3,7 @@ use Rattle.std.specs.Prelude.{◌≡◌, ℕ, nat_eq, Bool, cond, ◌++◌, List
 use Rattle.std.specs.Prelude.{IsTrue, slice_index_or}
 use Rattle.std.specs.List.{list_any}
 use Rattle.std.specs.Option.{is_some}
-use Rattle.rules_table.specs.Layers.{same_pattern}
+use Rattle.safety_rules.specs.from_rules_table.Layers.{same_pattern}
 
 -- the label that is noted for this one
 abbrev pub partner_in : List (Option ℕ) → ℕ → Option ℕ

@@ -1,7 +1,7 @@
 -- What a comparison of the labels of two programs gives.
 use Rattle.std.specs.Prelude.{◌≡◌, ℕ, true, false, List, zip, Option, Some, None}
 use Rattle.core_terms.specs.declared.programs.CStmt.{CStmt}
-use Rattle.rules_table.specs.Layers.{labels, same_pattern}
+use Rattle.safety_rules.specs.from_rules_table.Layers.{labels, same_pattern}
 use Rattle.superposition.specs.Labels.{TellsTaken}
 use Rattle.superposition.specs.declared.labels.Partners.{Partners}
 

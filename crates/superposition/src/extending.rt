@@ -4,7 +4,7 @@ ghost use Rattle.std.specs.List.{list_all};
 ghost use Rattle.core_terms.specs.Conditions.{is_shown};
 ghost use Rattle.core_terms.specs.Trees as trees;
 ghost use Rattle.meaning_executions.specs.Counting.{ints_eq};
-ghost use Rattle.rules_table.specs.Layers as layer;
+ghost use Rattle.safety_rules.specs.from_rules_table.Layers as layer;
 
 use crate::shown::Shown;
 use core_terms::{CForm, CStmt, CTerm, CWrite, same_term};

@@ -1,6 +1,6 @@
 // The layer's instance over the one that helps.
 ghost use Rattle.std.specs.Prelude.{◌≡◌, IfOk, Some};
-ghost use Rattle.rules_table.specs.Layers as layer;
+ghost use Rattle.safety_rules.specs.from_rules_table.Layers as layer;
 
 use core_terms::{CProgram, CStmt, Helper};
 use safety_rules::copied_helper;

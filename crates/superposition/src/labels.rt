@@ -3,7 +3,7 @@ ghost use Rattle.std.specs.Prelude.{◌≡◌, ◌<◌, ◌∷◌, ◌++◌, [],
 ghost use Rattle.std.specs.Prelude.{length};
 ghost use Rattle.superposition.specs.Labels.{partner_in, NotesLabels, NotesMore};
 ghost use Rattle.superposition.specs.Patterns.{IsPattern};
-ghost use Rattle.rules_table.specs.Layers as layer;
+ghost use Rattle.safety_rules.specs.from_rules_table.Layers as layer;
 
 use core_terms::CStmt;
 use std::alloc::{AllocError, Global};

@@ -1,7 +1,7 @@
 // Whether a program is a layer over another.
 ghost use Rattle.std.specs.Prelude.{◌≡◌, IfOk, List, ℕ};
 ghost use Rattle.std.specs.List.{list_all};
-ghost use Rattle.rules_table.specs.Layers as layer;
+ghost use Rattle.safety_rules.specs.from_rules_table.Layers as layer;
 ghost use Rattle.superposition.specs.Labels.{TellsTaken};
 
 use crate::extending::{all_extend, writes_above};

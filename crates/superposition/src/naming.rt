@@ -4,7 +4,7 @@ ghost use Rattle.std.specs.List.{list_all};
 ghost use Rattle.core_terms.specs.Conditions.{is_shown, any_place};
 ghost use Rattle.core_terms.specs.Places.{form_names_only, term_names_only};
 ghost use Rattle.core_terms.specs.declared.programs.CProgram.{CProgram};
-ghost use Rattle.rules_table.specs.Layers as layer;
+ghost use Rattle.safety_rules.specs.from_rules_table.Layers as layer;
 
 use crate::shown::Shown;
 use core_terms::{CForm, CTerm};

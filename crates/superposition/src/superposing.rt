@@ -3,8 +3,8 @@ ghost use Rattle.std.specs.Prelude.{◌≡◌, ◌∷◌, [], IfOk};
 ghost use Rattle.core_terms.specs.Conditions.{IsProgram};
 ghost use Rattle.core_terms.specs.declared.programs.CProgram.{CProgram as Program};
 ghost use Rattle.fair_rounds.specs.Records.{Stands};
-ghost use Rattle.rules_table.specs.Layers as layer;
-ghost use Rattle.rules_table.specs.Table as table;
+ghost use Rattle.safety_rules.specs.from_rules_table.Layers as layer;
+ghost use Rattle.safety_rules.specs.from_rules_table.Table as table;
 ghost use Rattle.safety_rules.specs.Answers.{site_of, IsPlace, IsPremiseAt, RuleAnswers};
 ghost use Rattle.safety_rules.specs.Sound.{StandsWhereShown};
 

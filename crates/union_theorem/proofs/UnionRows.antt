@@ -6,11 +6,13 @@ use Rattle.case_tables.specs.declared.code_table.Code.{Code}
 use Rattle.core_terms.specs.Trees.{same_form}
 use Rattle.core_terms.specs.declared.trees.CForm.TheVariants.{Top, Bottom}
 use Rattle.fair_rounds.specs.declared.records.Record.{Record}
-use Rattle.rules_table.specs.Conclusion.{Conclusion}
-use Rattle.rules_table.specs.Table.{Site, needs, record_of, concluded, shown_forms, is_part_pair, is_unless, is_ensures}
-use Rattle.rules_table.specs.Table.{claims_defined, is_invariant, first_helper, ending, union_unless_of}
-use Rattle.rules_table.specs.Table.{union_ensures_of}
-use Rattle.rules_table.specs.Table.{union_invariant_of, union_defined_of}
+use Rattle.safety_rules.specs.from_rules_table.Conclusion.{Conclusion}
+use Rattle.safety_rules.specs.from_rules_table.Table.{Site, needs, record_of, concluded, shown_forms, is_part_pair}
+use Rattle.safety_rules.specs.from_rules_table.Table.{is_unless, is_ensures}
+use Rattle.safety_rules.specs.from_rules_table.Table.{claims_defined, is_invariant, first_helper, ending}
+use Rattle.safety_rules.specs.from_rules_table.Table.{union_unless_of}
+use Rattle.safety_rules.specs.from_rules_table.Table.{union_ensures_of}
+use Rattle.safety_rules.specs.from_rules_table.Table.{union_invariant_of, union_defined_of}
 use Rattle.safety_rules.proofs.AnswerLaws.{needs_met, needs_not}
 
 -- what a union concludes, once its conditions are met

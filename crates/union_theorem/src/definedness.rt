@@ -4,8 +4,8 @@ ghost use Rattle.meaning_states.specs.State.{is_state};
 ghost use Rattle.core_terms.specs.Steps.{slot_ranges};
 ghost use Rattle.core_terms.specs.Values.{form_value};
 ghost use Rattle.core_terms.specs.declared.programs.CProgram.{CProgram};
-ghost use Rattle.rules_table.specs.Sound.{IsUnionOf, IsPartPremise};
-ghost use Rattle.rules_table.specs.Table as table;
+ghost use Rattle.safety_rules.specs.from_rules_table.Sound.{IsUnionOf, IsPartPremise};
+ghost use Rattle.safety_rules.specs.from_rules_table.Table as table;
 ghost use Rattle.safety_rules.specs.Answers.{site_of, IsPlace, IsPremiseAt, RuleAnswers};
 ghost use Rattle.safety_rules.specs.Sound.{StandsWhereShown};
 

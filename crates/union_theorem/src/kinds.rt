@@ -3,8 +3,8 @@ ghost use Rattle.std.specs.Prelude.{◌≡◌, ◌&&◌, ◌||◌, Result, Err, 
 ghost use Rattle.case_tables.specs.declared.code_table.Code.{Code as TheCode};
 ghost use Rattle.core_terms.specs.Trees.{same_form};
 ghost use Rattle.core_terms.specs.declared.trees.CForm.TheVariants.{Bottom};
-ghost use Rattle.rules_table.specs.Conclusion.{Conclusion};
-ghost use Rattle.rules_table.specs.Table as table;
+ghost use Rattle.safety_rules.specs.from_rules_table.Conclusion.{Conclusion};
+ghost use Rattle.safety_rules.specs.from_rules_table.Table as table;
 ghost use Rattle.safety_rules.specs.Answers.{site_of};
 
 use case_tables::{Code, Kind};

@@ -1,8 +1,8 @@
 // What the parts stand under has to follow in the union.
 ghost use Rattle.std.specs.Prelude.{◌++◌, [], All, map};
 ghost use Rattle.core_terms.specs.Conditions.{FormFits};
-ghost use Rattle.rules_table.specs.Forms as formula;
-ghost use Rattle.rules_table.specs.Table as table;
+ghost use Rattle.safety_rules.specs.from_rules_table.Forms as formula;
+ghost use Rattle.safety_rules.specs.from_rules_table.Table as table;
 ghost use Rattle.safety_rules.specs.Answers.{site_of, IsPlace, IsPremiseAt, RuleAnswers};
 ghost use Rattle.safety_rules.specs.Goals.{Added};
 ghost use Rattle.safety_rules.specs.Usable.{NamesExist};

@@ -1,7 +1,7 @@
 // What an unless, an ensures or an invariant of each part gives.
 ghost use Rattle.core_terms.specs.declared.programs.CProgram.{CProgram};
-ghost use Rattle.rules_table.specs.Sound.{IsUnionOf, IsPartPremise};
-ghost use Rattle.rules_table.specs.Table as table;
+ghost use Rattle.safety_rules.specs.from_rules_table.Sound.{IsUnionOf, IsPartPremise};
+ghost use Rattle.safety_rules.specs.from_rules_table.Table as table;
 ghost use Rattle.safety_rules.specs.Answers.{site_of, IsPlace, IsPremiseAt, RuleAnswers};
 ghost use Rattle.safety_rules.specs.Sound.{StandsWhereShown};
 

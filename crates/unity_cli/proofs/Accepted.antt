@@ -4,18 +4,18 @@ use Rattle.unity_syntax.specs.declared.document.Document.{Document}
 use Rattle.unity_syntax.specs.Classes.{terminals, says_later}
 use Rattle.core_terms.specs.Conditions.{IsCoreDocument}
 use Rattle.executor.specs.StartState.{start_state}
-use Rattle.expand_documents.specs.Cores.{core_document}
-use Rattle.expand_fits.proofs.Parsed.Reading.{read_cores}
+use Rattle.fixed_correct.specs.from_expand_documents.Cores.{core_document}
+use Rattle.streamed_documents.proofs.lemmas_from_expand_fits.Parsed.Reading.{read_cores}
 use Rattle.unity_parser.specs.Document.{IsDocument}
 use Rattle.unity_parser.proofs.Readings.{one_document}
-use Rattle.proof_plans.specs.Giving.{AreWhole}
-use Rattle.proof_plans.specs.declared.plans.Plan.{Plan}
-use Rattle.proof_plans.specs.Following.{Follows}
-use Rattle.proof_plans.specs.Laws.{IsValidPlan}
-use Rattle.proof_plans.specs.Verdicts.{verdict_of}
-use Rattle.rules_steps.specs.Starts.{starts_in}
-use Rattle.proof_plans.proofs.FollowLaws.{accepted_follows}
-use Rattle.proof_plans.proofs.VerdictLaws.{accepted_valid}
+use Rattle.cli_texts.specs.from_proof_plans.Giving.{AreWhole}
+use Rattle.cli_texts.specs.from_proof_plans.declared.plans.Plan.{Plan}
+use Rattle.cli_texts.specs.from_proof_plans.Following.{Follows}
+use Rattle.cli_texts.specs.from_proof_plans.Laws.{IsValidPlan}
+use Rattle.cli_texts.specs.from_proof_plans.Verdicts.{verdict_of}
+use Rattle.cli_texts.specs.from_rules_steps.Starts.{starts_in}
+use Rattle.cli_texts.proofs.lemmas_from_proof_plans.FollowLaws.{accepted_follows}
+use Rattle.cli_texts.proofs.lemmas_from_proof_plans.VerdictLaws.{accepted_valid}
 use Rattle.soundness.specs.Properties.{IsValidlyPlanned as IsProvedBy}
 use Rattle.soundness.specs.Written.{AreClaims}
 use Rattle.soundness.proofs.Words.{claims_are_written}

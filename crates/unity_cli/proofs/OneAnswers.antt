@@ -5,22 +5,22 @@ use Rattle.case_tables.specs.declared.code_table.Code.{Code}
 use Rattle.unity_syntax.specs.declared.document.Document.{Document}
 use Rattle.unity_syntax.specs.declared.document.Schedule.{Schedule}
 use Rattle.names_rules.specs.Declarations.{some_of}
-use Rattle.run_correct.specs.Names.{place_of}
+use Rattle.fixed_correct.specs.from_run_correct.Names.{place_of}
 use Rattle.meaning_documents.specs.Programs.{Composed, program_named, programs_of}
 use Rattle.core_terms.specs.declared.programs.CProgram.{CProgram}
-use Rattle.expand_documents.specs.Cores.{core_document}
-use Rattle.expand_correct.specs.Preserved.Meaning.{IsCoreProgramOf}
+use Rattle.fixed_correct.specs.from_expand_documents.Cores.{core_document}
+use Rattle.fixed_correct.specs.from_expand_correct.Preserved.Meaning.{IsCoreProgramOf}
 use Rattle.schedule_replay.specs.declared.heading.Heading.{Heading}
 use Rattle.schedule_replay.specs.Schedules.{turns}
-use Rattle.run_correct.specs.Traces.{source_system, first_state}
-use Rattle.run_correct.specs.Answers.{IsReplay, IsUnknown}
-use Rattle.proof_plans.specs.declared.plans.Plan.{Plan}
-use Rattle.proof_plans.specs.declared.plans.StepFault.{StepFault}
-use Rattle.proof_plans.specs.Verdicts.{verdict_of}
+use Rattle.fixed_correct.specs.from_run_correct.Traces.{source_system, first_state}
+use Rattle.fixed_correct.specs.from_run_correct.Answers.{IsReplay, IsUnknown}
+use Rattle.cli_texts.specs.from_proof_plans.declared.plans.Plan.{Plan}
+use Rattle.cli_texts.specs.from_proof_plans.declared.plans.StepFault.{StepFault}
+use Rattle.cli_texts.specs.from_proof_plans.Verdicts.{verdict_of}
 use Rattle.certificate_reading.specs.Certificates.{certificates_of}
 use Rattle.cli_texts.specs.Refusals.{fault_text, refusal_text}
 use Rattle.cli_texts.specs.Verdicts.{accepted_text, rejected_text}
-use Rattle.upgraded_texts.specs.Upgraded.{upgraded_text}
+use Rattle.plain_quotients.specs.from_upgraded_texts.Upgraded.{upgraded_text}
 use Rattle.cli_words.specs.Requests.{check, prove, run, fixed, replay, demo, upgrade, watch}
 use Rattle.trace_watch.specs.declared.tracing.Ending.{Ending}
 use Rattle.watch_schedules.specs.declared.error.WatchStop.{WatchStop}

@@ -6,13 +6,13 @@ use Rattle.unity_syntax.specs.declared.certificate.Certificates.{Certificates}
 use Rattle.unity_syntax.specs.declared.document.Document.{Document}
 use Rattle.core_terms.specs.declared.documents.CDocument.{CDocument}
 use Rattle.core_terms.specs.Conditions.{IsCoreDocument}
-use Rattle.expand_documents.specs.Cores.{core_document}
+use Rattle.fixed_correct.specs.from_expand_documents.Cores.{core_document}
 use Rattle.obligations.specs.declared.certificates.Cert.{Cert}
-use Rattle.proof_plans.specs.declared.plans.Plan.{Plan}
+use Rattle.cli_texts.specs.from_proof_plans.declared.plans.Plan.{Plan}
 use Rattle.proof_script.specs.declared.plans.Proof.{Proof}
-use Rattle.proof_plans.specs.declared.plans.ScriptError.{ScriptError}
+use Rattle.cli_texts.specs.from_proof_plans.declared.plans.ScriptError.{ScriptError}
 use Rattle.proof_script.specs.Proving.{Finds, ProvedWithin}
-use Rattle.proof_plans.specs.Verdicts.{verdict_of}
+use Rattle.cli_texts.specs.from_proof_plans.Verdicts.{verdict_of}
 use Rattle.cli_texts.specs.Verdicts.{accepted_text}
 use Rattle.certificate_printing.specs.Certificates.{certificates_text}
 use Rattle.certificate_roundtrip.specs.Found.{front, text_with}

@@ -1,7 +1,7 @@
 -- What is shown of a ring is its answer.
 use Rattle.std.proofs.Common.{◌≡◌, ◌-◌, ℕ, List, ◌++◌, Bool, true, false, Option, Some, None, refl, sym}
 use Rattle.std.proofs.Common.{ap, ◌∙◌, subst}
-use Rattle.proof_plans.specs.declared.plans.Plan.{Plan}
+use Rattle.cli_texts.specs.from_proof_plans.declared.plans.Plan.{Plan}
 use Rattle.cli_texts.specs.Verdicts.{accepted_text}
 use Rattle.cli_ring.specs.Rings.{ring_bytes}
 use Rattle.cli_words.specs.declared.words.Command.{Command}

@@ -12,11 +12,11 @@ use Rattle.meaning_documents.specs.Programs.{Composed, program_named, programs_o
 use Rattle.names_rules.specs.Declarations.{some_of}
 use Rattle.names_rules.specs.Reading.{Fault, earlier}
 use Rattle.names_rules.specs.WellNamed.{name_fault}
-use Rattle.expand_documents.specs.Cores.{core_document}
-use Rattle.expand_documents.specs.Faults.{expansion_fault}
+use Rattle.fixed_correct.specs.from_expand_documents.Cores.{core_document}
+use Rattle.fixed_correct.specs.from_expand_documents.Faults.{expansion_fault}
 use Rattle.core_terms.specs.declared.programs.CProgram.{CProgram}
-use Rattle.expand_correct.specs.Preserved.Meaning.{IsCoreProgramOf}
-use Rattle.expand_correct.proofs.Preserved.Matching.{programs_match}
+use Rattle.fixed_correct.specs.from_expand_correct.Preserved.Meaning.{IsCoreProgramOf}
+use Rattle.fixed_correct.proofs.lemmas_from_expand_correct.Preserved.Matching.{programs_match}
 use Rattle.schedule_replay.specs.declared.heading.Heading.{Heading}
 use Rattle.schedule_replay.specs.Schedules.{turns}
 use Rattle.run_traces.specs.Programs.{scheduled_program}
@@ -24,17 +24,17 @@ use Rattle.run_traces.proofs.FindingLaws as core
 use Rattle.run_traces.specs.Traces.{all_defined}
 use Rattle.fixed_runs.specs.Traces.{fixed_defined}
 use Rattle.fixed_correct.specs.Traces.{fixed_trace}
-use Rattle.run_correct.specs.Answers.{IsReplay}
-use Rattle.run_correct.specs.Names.{place_of}
-use Rattle.run_correct.specs.Traces.{source_system, first_state, program_trace}
-use Rattle.run_correct.proofs.Finding.{HasSchedule, scheduled_source, no_schedule_source}
-use Rattle.proof_plans.specs.declared.plans.Plan.{Plan}
-use Rattle.proof_plans.specs.declared.plans.StepFault.{StepFault}
+use Rattle.fixed_correct.specs.from_run_correct.Answers.{IsReplay}
+use Rattle.fixed_correct.specs.from_run_correct.Names.{place_of}
+use Rattle.fixed_correct.specs.from_run_correct.Traces.{source_system, first_state, program_trace}
+use Rattle.fixed_correct.proofs.lemmas_from_run_correct.Finding.{HasSchedule, scheduled_source, no_schedule_source}
+use Rattle.cli_texts.specs.from_proof_plans.declared.plans.Plan.{Plan}
+use Rattle.cli_texts.specs.from_proof_plans.declared.plans.StepFault.{StepFault}
 use Rattle.proof_script.specs.declared.plans.Proof.{Proof}
-use Rattle.proof_plans.specs.declared.plans.ScriptError.{ScriptError}
+use Rattle.cli_texts.specs.from_proof_plans.declared.plans.ScriptError.{ScriptError}
 use Rattle.proof_script.specs.Laws.{IsAnswered}
 use Rattle.proof_script.specs.Proving.{Finds}
-use Rattle.proof_plans.specs.Verdicts.{verdict_of}
+use Rattle.cli_texts.specs.from_proof_plans.Verdicts.{verdict_of}
 use Rattle.proof_script.proofs.SomeLaws.{some_finding}
 use Rattle.search_tree.proofs.EndsLaws.{search-ends}
 use Rattle.certificate_printing.specs.Findings.{budget_text, refuted_text}
@@ -43,7 +43,7 @@ use Rattle.cli_ring.specs.Rings.{ring_bytes}
 use Rattle.certificate_reading.specs.Certificates.{certificates_of}
 use Rattle.cli_texts.specs.Refusals.{fault_text, refusal_text}
 use Rattle.cli_texts.specs.Verdicts.{accepted_text, rejected_text}
-use Rattle.upgraded_texts.specs.Upgraded.{upgraded_text}
+use Rattle.plain_quotients.specs.from_upgraded_texts.Upgraded.{upgraded_text}
 use Rattle.cli_words.specs.Requests.{Request, check, prove, run, fixed, replay, demo, upgrade, watch}
 use Rattle.cli_words.specs.Requests.{request_of}
 use Rattle.cli_words.proofs.Asking.{requests_are_asked}

@@ -19,16 +19,16 @@ use Rattle.schedule_replay.specs.Schedules.{turns}
 use Rattle.run_traces.specs.Traces.{all_defined, ending}
 use Rattle.run_traces.specs.declared.error.RunError.{RunError}
 use Rattle.run_traces.specs.Answers.{CoreRuns, CoreReplays}
-use Rattle.run_correct.specs.Traces.{source_system, first_state, program_trace}
-use Rattle.expand_correct.specs.Preserved.Meaning.{IsCoreProgramOf}
-use Rattle.run_correct.specs.Answers.{Runs, Replays, IsReplay}
-use Rattle.run_correct.proofs.Runs.{runs_say}
+use Rattle.fixed_correct.specs.from_run_correct.Traces.{source_system, first_state, program_trace}
+use Rattle.fixed_correct.specs.from_expand_correct.Preserved.Meaning.{IsCoreProgramOf}
+use Rattle.fixed_correct.specs.from_run_correct.Answers.{Runs, Replays, IsReplay}
+use Rattle.fixed_correct.proofs.lemmas_from_run_correct.Runs.{runs_say}
 use Rattle.fixed_runs.specs.Traces.{fixed_defined}
 use Rattle.fixed_runs.specs.Answers.{CoreFixedRuns}
 use Rattle.fixed_correct.specs.Traces.{fixed_trace}
 use Rattle.fixed_correct.specs.Answers.{FixedRuns}
 use Rattle.fixed_correct.proofs.Runs.{fixed_runs_say}
-use Rattle.run_correct.proofs.Replays.{replays_say}
+use Rattle.fixed_correct.proofs.lemmas_from_run_correct.Replays.{replays_say}
 use Rattle.cli_words.specs.Requests.{Request, check, run, fixed, replay}
 use Rattle.unity_cli.specs.declared.status.Status.{Status}
 use Rattle.unity_cli.specs.declared.stop.Stop.{Stop}

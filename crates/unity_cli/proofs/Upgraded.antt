@@ -2,13 +2,13 @@
 use Rattle.std.proofs.Common.{◌≡◌, ◌≤◌, ℕ, List, Ok, sym, ◌∙◌, subst, arith, refl}
 use Rattle.unity_syntax.specs.declared.document.Document.{Document}
 use Rattle.unity_parser.proofs.Readings.{one_document}
-use Rattle.expand_documents.specs.Cores.{core_document}
+use Rattle.fixed_correct.specs.from_expand_documents.Cores.{core_document}
 use Rattle.certificate_reading.specs.Certificates.{certificates_of}
-use Rattle.proof_plans.specs.Verdicts.{verdict_of}
-use Rattle.upgraded_texts.specs.Upgraded.{upgraded, upgraded_text}
-use Rattle.upgraded_texts.proofs.Documents.{upgraded_is_as_long, upgraded_is_read}
-use Rattle.upgraded_texts.proofs.Cores.{upgraded_core, upgraded_expands, upgraded_is_named}
-use Rattle.upgraded_texts.proofs.Accepting.{upgraded_is_accepted}
+use Rattle.cli_texts.specs.from_proof_plans.Verdicts.{verdict_of}
+use Rattle.plain_quotients.specs.from_upgraded_texts.Upgraded.{upgraded, upgraded_text}
+use Rattle.plain_quotients.proofs.lemmas_from_upgraded_texts.Documents.{upgraded_is_as_long, upgraded_is_read}
+use Rattle.plain_quotients.proofs.lemmas_from_upgraded_texts.Cores.{upgraded_core, upgraded_expands, upgraded_is_named}
+use Rattle.plain_quotients.proofs.lemmas_from_upgraded_texts.Accepting.{upgraded_is_accepted}
 use Rattle.unity_cli.specs.declared.status.Status.{Status}
 use Rattle.unity_cli.specs.Status.{HasText}
 use Rattle.unity_cli.specs.Admitted.{greatest_size, greatest_bare_size, IsAdmitted}

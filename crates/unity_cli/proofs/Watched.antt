@@ -8,7 +8,7 @@ use Rattle.unity_syntax.specs.declared.document.Document.{Document}
 use Rattle.unity_parser.specs.Document.{IsDocument}
 use Rattle.unity_parser.proofs.Readings.{one_document}
 use Rattle.core_terms.specs.declared.documents.CDocument.{CDocument}
-use Rattle.expand_documents.specs.Cores.{core_document}
+use Rattle.fixed_correct.specs.from_expand_documents.Cores.{core_document}
 use Rattle.cli_texts.specs.Refusals.{fault_text, refusal_text}
 use Rattle.cli_words.specs.Requests.{Request, watch}
 use Rattle.trace_watch.specs.declared.tracing.Ending.{Ending}

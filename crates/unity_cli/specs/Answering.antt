@@ -5,7 +5,7 @@ use Rattle.unity_base.specs.Streams.{AppendsPart}
 use Rattle.case_tables.specs.declared.code_table.Code.{Code}
 use Rattle.executor.specs.declared.runner.Stepped.{Stepped}
 use Rattle.run_traces.specs.declared.error.RunError.{RunError}
-use Rattle.proof_plans.specs.declared.plans.Plan.{Plan}
+use Rattle.cli_texts.specs.from_proof_plans.declared.plans.Plan.{Plan}
 use Rattle.cli_texts.specs.Refusals.{fault_text, refusal_text}
 use Rattle.cli_texts.specs.Verdicts.{accepted_text, rejected_text}
 use Rattle.cli_words.specs.Requests.{Request, run, fixed, replay}

@@ -1,8 +1,8 @@
 -- Which bytes are a document whose proofs follow the rules.
 use Rattle.std.specs.Prelude.{ℕ, List}
 use Rattle.unity_syntax.specs.declared.document.Document.{Document}
-use Rattle.expand_documents.specs.Cores.{core_document}
-use Rattle.proof_plans.specs.Following.{Follows}
+use Rattle.fixed_correct.specs.from_expand_documents.Cores.{core_document}
+use Rattle.cli_texts.specs.from_proof_plans.Following.{Follows}
 use Rattle.certificate_reading.specs.Certificates.{certificates_of}
 use Rattle.unity_cli.specs.Admitted.{greatest_size, IsAdmitted}
 

@@ -2,7 +2,7 @@
 use Rattle.std.specs.Prelude.{◌≡◌, ◌<◌, ◌≤◌, ℕ, List, [], length, take, Option, Some, None}
 use Rattle.unity_base.specs.Streams.{Was}
 use Rattle.unity_syntax.specs.declared.document.Document.{Document}
-use Rattle.expand_documents.specs.Cores.{core_document}
+use Rattle.fixed_correct.specs.from_expand_documents.Cores.{core_document}
 use Rattle.unity_cli.specs.declared.input.Input.{Input}
 use Rattle.streamed_documents.specs.declared.found.ReadDocument.{ReadDocument}
 use Rattle.unity_cli.specs.declared.input.Text.{Text}

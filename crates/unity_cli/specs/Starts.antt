@@ -7,8 +7,8 @@ use Rattle.meaning_documents.specs.Programs.{Composed, document_setting}
 use Rattle.meaning_documents.specs.AsSystem.{system_of}
 use Rattle.core_terms.specs.declared.programs.CProgram.{CProgram}
 use Rattle.executor.specs.StartState.{start_state}
-use Rattle.expand_documents.specs.Cores.{core_document}
-use Rattle.expand_correct.specs.Preserved.Meaning.{IsCoreProgramOf}
+use Rattle.fixed_correct.specs.from_expand_documents.Cores.{core_document}
+use Rattle.fixed_correct.specs.from_expand_correct.Preserved.Meaning.{IsCoreProgramOf}
 
 -- the start state of the document's program with this name, which `run` and `replay` begin with, is an initial one
 pub record HasInitialStart (d : Document) (name : List ℕ) : Type 0 where

@@ -15,9 +15,9 @@ use Rattle.unity_syntax.specs.declared.certificate.Node.{Node}
 use Rattle.unity_syntax.specs.declared.certificate.CertText.{CertText}
 use Rattle.unity_syntax.specs.declared.token.Token.{Token}
 use Rattle.unity_syntax.proofs.LookAhead.{grammar_is}
-use Rattle.parser_expressions.specs.declared.cursor.Cursor.{Cursor}
-use Rattle.parser_expressions.specs.declared.stop.Stop.{Stop}
-use Rattle.parser_expressions.specs.Gives.{remaining, Fails}
+use Rattle.parser_programs.specs.from_parser_expressions.declared.cursor.Cursor.{Cursor}
+use Rattle.parser_programs.specs.from_parser_expressions.declared.stop.Stop.{Stop}
+use Rattle.parser_programs.specs.from_parser_expressions.Gives.{remaining, Fails}
 use Rattle.unity_parser.proofs.NodeForms.{good_node, node_takes, good_nodes, good_certificate, good_certificates}
 
 map_more : {X : Type 0} (view : X → Tree) (xs : List X) (x : X) → map view (xs ++ x ∷ []) ≡ map view xs ++ view x ∷ []

@@ -1,3 +1,4 @@
+pub use Rattle.unity_lexer.proofs as lemmas_from_unity_lexer
 pub mod CertificateLoops
 pub mod FrontFaults
 pub mod FrontNames

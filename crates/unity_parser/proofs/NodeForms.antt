@@ -6,7 +6,7 @@ use Rattle.grammar_theory.specs.LookAhead.{empties, good}
 use Rattle.unity_syntax.specs.Classes.{number_class, symbol}
 use Rattle.unity_syntax.specs.Grammar.{grammar, past, inst_, multiple_, node_, subtrees, certificate_}
 use Rattle.unity_syntax.proofs.Productions.{all_productions}
-use Rattle.parser_expressions.proofs.Repetition.{IsItem}
+use Rattle.parser_programs.proofs.lemmas_from_parser_expressions.Repetition.{IsItem}
 
 pub is_inst : IsItem (past (symbol Symbol.Comma) inst_) (symbol Symbol.Comma ∷ [])
 unfolding all_productions

@@ -14,8 +14,8 @@ use Rattle.unity_syntax.specs.Grammar.{grammar, document_}
 use Rattle.unity_syntax.specs.View.{view}
 use Rattle.unity_syntax.proofs.LookAhead.{grammar_is, document_is}
 use Rattle.unity_syntax.proofs.WordsKept.{bodies_keep, document_keeps}
-use Rattle.parser_expressions.specs.declared.stop.Stop.{Stop}
-use Rattle.parser_expressions.specs.Gives.{Fails, remaining}
+use Rattle.parser_programs.specs.from_parser_expressions.declared.stop.Stop.{Stop}
+use Rattle.parser_programs.specs.from_parser_expressions.Gives.{Fails, remaining}
 use Rattle.unity_lexer.specs.Tokens.{AreInOrder}
 use Rattle.unity_parser.specs.ParseAnswers.{most_brackets, IsExactAnswer, IsDocumentOf, IsRefusal, IsRefusedFor, Names}
 use Rattle.unity_parser.specs.ParseAnswers.{WordsRise, code_of, rest_of, beginning}

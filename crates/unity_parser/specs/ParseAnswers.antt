@@ -11,8 +11,8 @@ use Rattle.unity_syntax.specs.declared.fault.SyntaxFault.{SyntaxFault}
 use Rattle.unity_syntax.specs.Classes.{terminals, says_later}
 use Rattle.unity_syntax.specs.Grammar.{grammar, document_}
 use Rattle.unity_syntax.specs.View.{view}
-use Rattle.parser_expressions.specs.declared.stop.Stop.{Stop}
-use Rattle.parser_expressions.specs.Gives.{remaining}
+use Rattle.parser_programs.specs.from_parser_expressions.declared.stop.Stop.{Stop}
+use Rattle.parser_programs.specs.from_parser_expressions.Gives.{remaining}
 
 -- how many brackets may be open at once
 abbrev pub most_brackets : ℕ

@@ -12,10 +12,10 @@ ghost use Rattle.unity_syntax.specs.Grammar.{made, past, minus_, number_, multip
 ghost use Rattle.unity_syntax.specs.Grammar.{certificates_};
 ghost use Rattle.unity_syntax.specs.View.{view_certificate, view_certificates, view_flag, view_list, view_node};
 ghost use Rattle.unity_syntax.specs.View.{view_number, view_pair};
-ghost use Rattle.parser_expressions.specs.Gives.{Gives, Reads, remaining};
+ghost use Rattle.parser_programs.specs.from_parser_expressions.Gives.{Gives, Reads, remaining};
 
 use case_tables::{Symbol, Word};
-use parser_expressions::{Cursor, Parsed, Stop};
+use parser_programs::from_parser_expressions::{Cursor, Parsed, Stop};
 use std::alloc::Global;
 use unity_base::Seq;
 use unity_syntax::{CertText, Certificates, Node, Pair, TokenKind};

@@ -10,12 +10,12 @@ ghost use Rattle.unity_syntax.specs.Kinds.{Kind, kind};
 ghost use Rattle.unity_syntax.specs.Grammar.{made, program_, proof_, part_, schedule_, certificates_, document_};
 ghost use Rattle.unity_syntax.specs.View.{view, view_certificates, view_list, view_number, view_option, view_part};
 ghost use Rattle.unity_syntax.specs.View.{view_schedule};
-ghost use Rattle.parser_expressions.specs.Gives.{Reads, remaining};
+ghost use Rattle.parser_programs.specs.from_parser_expressions.Gives.{Reads, remaining};
 
 use crate::certificate::certificates;
 use crate::schedules::schedule;
 use case_tables::Word;
-use parser_expressions::{Cursor, Parsed, Stop};
+use parser_programs::from_parser_expressions::{Cursor, Parsed, Stop};
 use parser_programs::program;
 use parser_proofs::proof;
 use std::alloc::Global;

@@ -7,12 +7,12 @@ ghost use Rattle.grammar_theory.specs.Words.{words};
 ghost use Rattle.unity_syntax.specs.Grammar.{grammar, document_};
 ghost use Rattle.unity_syntax.specs.View.{view};
 ghost use Rattle.unity_lexer.specs.Tokens.{AreInOrder};
-ghost use Rattle.parser_expressions.specs.Gives.{Gives, Reads, remaining};
+ghost use Rattle.parser_programs.specs.from_parser_expressions.Gives.{Gives, Reads, remaining};
 ghost use Rattle.unity_parser.specs.ParseAnswers.{beginning, Names, IsDocumentOf, IsRefusedFor, WordsRise};
 
 use crate::documents::document;
 use case_tables::Code;
-use parser_expressions::{Cursor, Stop};
+use parser_programs::from_parser_expressions::{Cursor, Stop};
 use std::alloc::Global;
 use unity_syntax::{Document, SyntaxFault, Token, TokenKind};
 

@@ -8,10 +8,10 @@ ghost use Rattle.grammar_theory.specs.Reader.{begins};
 ghost use Rattle.unity_syntax.specs.Classes.{symbol};
 ghost use Rattle.unity_syntax.specs.Grammar.{past, one_or_more, inst_, schedule_};
 ghost use Rattle.unity_syntax.specs.View.{view_inst, view_list, view_option, view_schedule, view_some};
-ghost use Rattle.parser_expressions.specs.Gives.{Reads, remaining};
+ghost use Rattle.parser_programs.specs.from_parser_expressions.Gives.{Reads, remaining};
 
 use case_tables::{Symbol, Word};
-use parser_expressions::{Cursor, Parsed, inst};
+use parser_programs::from_parser_expressions::{Cursor, Parsed, inst};
 use std::alloc::Global;
 use unity_base::Seq;
 use unity_syntax::{Inst, Schedule};

@@ -1,3 +1,4 @@
+pub use Rattle.case_tables.specs as from_case_tables
 pub mod Classes
 pub mod Grammar
 pub mod Kinds

@@ -16,6 +16,7 @@ mod statement;
 mod term;
 mod token;
 
+pub use case_tables as from_case_tables;
 pub use certificate::{CertText, Certificates, Node, Pair};
 pub use declaration::{Def, Init, InitValue, Plain, Var, VarType};
 pub use document::{Document, Part, Schedule};
@@ -32,3 +33,4 @@ pub use reading::{
 pub use statement::{Alts, Assign, Component, Item, Items, Target, Values};
 pub use term::{Inst, Ref, Term};
 pub use token::{Token, TokenKind};
+pub use unity_base as from_unity_base;

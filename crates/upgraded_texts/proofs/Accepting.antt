@@ -19,9 +19,9 @@ use Rattle.rules_table.specs.Table.{Site, needs, go_on, is_unless}
 use Rattle.rules_table.specs.Further.{is_leadsto}
 use Rattle.rules_table.specs.Walk.{Around, is_first, has_defined, program_of, used, suits, applied, claims, step_site}
 use Rattle.rules_table.specs.Walk.{rule_of}
-use Rattle.safety_rules.specs.declared.places.Derived.{Derived}
-use Rattle.safety_rules.specs.Answers.{derived_of}
-use Rattle.rules_steps.specs.Starts.{document_seen}
+use Rattle.proof_plans.specs.from_safety_rules.declared.places.Derived.{Derived}
+use Rattle.proof_plans.specs.from_safety_rules.Answers.{derived_of}
+use Rattle.proof_plans.specs.from_rules_steps.Starts.{document_seen}
 use Rattle.proof_plans.specs.declared.plans.Plan.{Plan}
 use Rattle.proof_plans.specs.declared.plans.StepFault.{StepFault}
 use Rattle.proof_plans.specs.Verdicts.{then_by, or_rule_fault, failing_node, failing, most_levels, or_refutation_fault}

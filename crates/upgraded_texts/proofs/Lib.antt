@@ -1,3 +1,4 @@
+pub use Rattle.expand_fits.proofs.lemmas_from_expand_fits_parts
 pub mod Accepting
 pub mod Cores
 pub mod Digits

@@ -2,8 +2,8 @@
 use Rattle.std.specs.Prelude.{◌≡◌, List, Ok}
 use Rattle.unity_syntax.specs.declared.document.Document.{Document}
 use Rattle.names_rules.specs.WellNamed.{IsWellNamed}
-use Rattle.expand_documents.specs.Cores.{core_document}
-use Rattle.expand_documents.specs.Faults.{expansion_fault}
+use Rattle.expand_fits.specs.from_expand_documents.Cores.{core_document}
+use Rattle.expand_fits.specs.from_expand_documents.Faults.{expansion_fault}
 use Rattle.core_terms.specs.declared.documents.CDocument.{CDocument}
 use Rattle.obligations.specs.declared.certificates.Cert.{Cert}
 use Rattle.proof_plans.specs.declared.plans.Plan.{Plan}

@@ -14,14 +14,14 @@ use Rattle.core_terms.specs.declared.programs.CProgram.{CProgram}
 use Rattle.core_terms.specs.Steps.{core_step}
 use Rattle.executor.specs.CoreSystem.{core_system}
 use Rattle.rules_table.specs.Walk.{Failure, Plan, walk_of}
-use Rattle.rules_steps.specs.Starts.{starts_in}
-use Rattle.proof_plans.specs.declared.plans.StepFault.{StepFault}
-use Rattle.proof_plans.specs.Verdicts.{rule_fault}
+use Rattle.watch_laws.specs.from_rules_steps.Starts.{starts_in}
+use Rattle.watch_schedules.specs.from_proof_plans.declared.plans.StepFault.{StepFault}
+use Rattle.watch_schedules.specs.from_proof_plans.Verdicts.{rule_fault}
 use Rattle.schedule_replay.specs.declared.heading.Heading.{Heading}
 use Rattle.expand_declarations.specs.References.{core_schedule}
 use Rattle.expand_declarations.specs.WordNumbers.{document_words}
-use Rattle.expand_documents.specs.Cores.{core_document}
-use Rattle.expand_correct.specs.Preserved.Meaning.{IsCoreProgramOf}
+use Rattle.run_correct.specs.from_expand_documents.Cores.{core_document}
+use Rattle.run_correct.specs.from_expand_correct.Preserved.Meaning.{IsCoreProgramOf}
 use Rattle.run_traces.specs.Programs.{program_of, scheduled_program}
 use Rattle.run_correct.specs.Names.{chooses_instance, place_of}
 use Rattle.run_correct.specs.Traces.{first_state, source_system}

@@ -12,10 +12,10 @@ use Rattle.meaning_laws.proofs.AlikeTheorems.{alike_back, runs_alike}
 use Rattle.core_terms.specs.declared.programs.CProgram.{CProgram}
 use Rattle.executor.specs.CoreSystem.{core_system}
 use Rattle.rules_table.specs.Walk.{Plan}
-use Rattle.rules_steps.specs.Starts.{starts_in}
-use Rattle.expand_documents.specs.Cores.{core_document}
-use Rattle.expand_correct.specs.Preserved.Meaning.{IsCoreProgramOf}
-use Rattle.expand_correct.proofs.Preserved.Meaning.{programs_alike}
+use Rattle.watch_laws.specs.from_rules_steps.Starts.{starts_in}
+use Rattle.run_correct.specs.from_expand_documents.Cores.{core_document}
+use Rattle.run_correct.specs.from_expand_correct.Preserved.Meaning.{IsCoreProgramOf}
+use Rattle.run_correct.proofs.lemmas_from_expand_correct.Preserved.Meaning.{programs_alike}
 use Rattle.run_correct.specs.Traces.{first_state, source_system}
 use Rattle.trace_watch.specs.declared.tracing.Ending.{Ending}
 use Rattle.trace_watch.specs.Cases.{watched}

@@ -8,9 +8,9 @@ use Rattle.unity_syntax.specs.declared.term.Inst.{Inst}
 use Rattle.meaning_documents.specs.Programs.{Composed, program_named, programs_of}
 use Rattle.names_rules.specs.Declarations.{some_of}
 use Rattle.rules_table.specs.Walk.{Failure, Plan}
-use Rattle.proof_plans.specs.declared.plans.StepFault.{StepFault}
-use Rattle.proof_plans.specs.Verdicts.{rule_fault}
-use Rattle.expand_documents.specs.Cores.{core_document}
+use Rattle.watch_schedules.specs.from_proof_plans.declared.plans.StepFault.{StepFault}
+use Rattle.watch_schedules.specs.from_proof_plans.Verdicts.{rule_fault}
+use Rattle.run_correct.specs.from_expand_documents.Cores.{core_document}
 use Rattle.run_correct.specs.Answers.{IsUnknown}
 use Rattle.run_correct.specs.Names.{place_of}
 use Rattle.run_correct.specs.Traces.{first_state, source_system}

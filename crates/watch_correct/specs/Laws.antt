@@ -4,11 +4,11 @@ use Rattle.unity_syntax.specs.declared.document.Document.{Document}
 use Rattle.names_rules.specs.WellNamed.{IsWellNamed}
 use Rattle.core_terms.specs.Conditions.{IsCoreDocument}
 use Rattle.rules_table.specs.Walk.{Plan}
-use Rattle.proof_plans.specs.declared.plans.StepFault.{StepFault}
-use Rattle.rules_steps.specs.Starts.{starts_in}
-use Rattle.expand_documents.specs.Cores.{core_document}
-use Rattle.expand_documents.specs.Faults.{expansion_fault}
-use Rattle.soundness.specs.Properties.{IsValidlyPlanned}
+use Rattle.watch_schedules.specs.from_proof_plans.declared.plans.StepFault.{StepFault}
+use Rattle.watch_laws.specs.from_rules_steps.Starts.{starts_in}
+use Rattle.run_correct.specs.from_expand_documents.Cores.{core_document}
+use Rattle.run_correct.specs.from_expand_documents.Faults.{expansion_fault}
+use Rattle.watch_laws.specs.from_soundness.Properties.{IsValidlyPlanned}
 use Rattle.trace_watch.specs.declared.tracing.Ending.{Ending}
 use Rattle.trace_watch.specs.declared.violations.Violation.{Violation}
 use Rattle.watch_schedules.specs.declared.error.WatchStop.{WatchStop}

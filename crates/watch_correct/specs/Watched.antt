@@ -6,10 +6,10 @@ use Rattle.meaning_states.specs.State.{State}
 use Rattle.meaning_documents.specs.Programs.{Composed}
 use Rattle.core_terms.specs.declared.programs.CProgram.{CProgram}
 use Rattle.rules_table.specs.Walk.{Plan, walk_of}
-use Rattle.rules_steps.specs.Starts.{starts_in}
-use Rattle.proof_plans.specs.declared.plans.StepFault.{StepFault}
-use Rattle.proof_plans.specs.Planning.{IsFailureOf}
-use Rattle.expand_documents.specs.Cores.{core_document}
+use Rattle.watch_laws.specs.from_rules_steps.Starts.{starts_in}
+use Rattle.watch_schedules.specs.from_proof_plans.declared.plans.StepFault.{StepFault}
+use Rattle.watch_schedules.specs.from_proof_plans.Planning.{IsFailureOf}
+use Rattle.run_correct.specs.from_expand_documents.Cores.{core_document}
 use Rattle.run_correct.specs.Traces.{source_system, first_state}
 use Rattle.run_correct.specs.Answers.{IsReplay, IsUnknown}
 use Rattle.trace_watch.specs.declared.tracing.Ending.{Ending}

@@ -35,9 +35,9 @@ use Rattle.fair_rounds.proofs.RecordTheorems.{kept_holds}
 use Rattle.rules_table.specs.Walk.{program_of}
 use Rattle.rules_table.proofs.EachLaws.{from_all, each_at, found_in}
 use Rattle.rules_table.proofs.WalkTheorems.{records_kept}
-use Rattle.expand_declarations.specs.WordNumbers.{document_words, word_number}
-use Rattle.expand_documents.specs.Cores.{core_document}
-use Rattle.expand_correct.proofs.Preserved.Meaning.{programs_alike}
+use Rattle.soundness.specs.from_expand_declarations.WordNumbers.{document_words, word_number}
+use Rattle.soundness.specs.from_expand_documents.Cores.{core_document}
+use Rattle.soundness.proofs.lemmas_from_expand_correct.Preserved.Meaning.{programs_alike}
 use Rattle.trace_watch.specs.Readings.{Reading, passes, is_helped, is_violated}
 use Rattle.trace_watch.specs.Cases.{environments, helper_place, is_of, reading_of, watched_from}
 use Rattle.trace_watch.specs.Violations.{violation_of, first_failing}

@@ -28,15 +28,15 @@ use Rattle.fair_rounds.specs.declared.records.Record.{Record}
 use Rattle.executor.specs.CoreSystem.{core_system}
 use Rattle.fair_rounds.specs.Records.{holding, are_in_ranges}
 use Rattle.rules_table.proofs.EachLaws.{Each}
-use Rattle.expand_declarations.specs.References.{param_range}
-use Rattle.expand_declarations.specs.WordNumbers.{document_words}
+use Rattle.soundness.specs.from_expand_declarations.References.{param_range}
+use Rattle.soundness.specs.from_expand_declarations.WordNumbers.{document_words}
 use Rattle.expand_rules.specs.Forming.{Scope}
-use Rattle.expand_steps.specs.Steps.{claim_p, claim_q, step_place}
-use Rattle.expand_documents.specs.Cores.{document_scope, core_document}
-use Rattle.expand_documents.specs.Faults.{expansion_fault}
-use Rattle.expand_correct.specs.Preserved.Claims.{ClaimSays}
-use Rattle.expand_correct.proofs.Preserved.Arguments.{claims_say}
-use Rattle.expand_correct.proofs.Preserved.Meaning.{programs_alike}
+use Rattle.soundness.specs.from_expand_steps.Steps.{claim_p, claim_q, step_place}
+use Rattle.soundness.specs.from_expand_documents.Cores.{document_scope, core_document}
+use Rattle.soundness.specs.from_expand_documents.Faults.{expansion_fault}
+use Rattle.soundness.specs.from_expand_correct.Preserved.Claims.{ClaimSays}
+use Rattle.soundness.proofs.lemmas_from_expand_correct.Preserved.Arguments.{claims_say}
+use Rattle.soundness.proofs.lemmas_from_expand_correct.Preserved.Meaning.{programs_alike}
 use Rattle.soundness.specs.PlanSteps.{IsRecordOf}
 use Rattle.soundness.specs.Properties.{core_of}
 use Rattle.soundness.proofs.PlanRecords.{plan_is_steps}

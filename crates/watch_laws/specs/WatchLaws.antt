@@ -12,9 +12,9 @@ use Rattle.core_terms.specs.declared.programs.CProgram.{CProgram}
 use Rattle.core_terms.specs.Conditions.{IsCoreDocument}
 use Rattle.executor.specs.CoreSystem.{core_system}
 use Rattle.rules_table.specs.Walk.{Plan, walk_of}
-use Rattle.expand_documents.specs.Cores.{core_document}
-use Rattle.expand_documents.specs.Faults.{expansion_fault}
-use Rattle.expand_correct.specs.Preserved.Meaning.{IsCoreProgramOf}
+use Rattle.soundness.specs.from_expand_documents.Cores.{core_document}
+use Rattle.soundness.specs.from_expand_documents.Faults.{expansion_fault}
+use Rattle.soundness.specs.from_expand_correct.Preserved.Meaning.{IsCoreProgramOf}
 use Rattle.soundness.specs.Properties.{IsValidlyPlanned}
 use Rattle.trace_watch.specs.Cases.{watched}
 use Rattle.trace_watch.specs.Violations.{violation, IsUnviolated}

@@ -19,10 +19,10 @@ use Rattle.core_terms.specs.declared.documents.CSchedule.{CSchedule}
 use Rattle.core_terms.specs.declared.documents.CDocument.{CDocument}
 use Rattle.core_terms.specs.Conditions.{FormFits, IsCoreDocument, IsProof, IsStep}
 use Rattle.fair_rounds.specs.declared.records.Record.{Record}
-use Rattle.rules_table.specs.Walk.{Plan}
-use Rattle.rules_table.proofs.EachLaws.{Each, each_join, found_in, from_all}
-use Rattle.rules_table.proofs.EnsuresSound.{some_item}
-use Rattle.rules_steps.specs.Starts.{starts_in}
+use Rattle.soundness.specs.from_rules_table.Walk.{Plan}
+use Rattle.soundness.proofs.lemmas_from_rules_table.EachLaws.{Each, each_join, found_in, from_all}
+use Rattle.soundness.proofs.lemmas_from_rules_table.EnsuresSound.{some_item}
+use Rattle.proof_plans.specs.from_rules_steps.Starts.{starts_in}
 use Rattle.run_traces.specs.Programs.{program_of, scheduled_program}
 use Rattle.soundness.specs.PlanSteps.{CoreStep, IsRecordOf, core_steps, of_program}
 use Rattle.soundness.proofs.PlanRecords.{defined_record, plan_is_steps}

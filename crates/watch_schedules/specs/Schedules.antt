@@ -10,8 +10,8 @@ use Rattle.executor.specs.CoreSystem.{core_system}
 use Rattle.executor.specs.StartState.{start_state}
 use Rattle.schedule_replay.specs.Schedules.{IsSchedule, IsUnknownChoice}
 use Rattle.run_traces.specs.Programs.{scheduled_program}
-use Rattle.rules_table.specs.Walk.{Plan, walk_of}
-use Rattle.rules_steps.specs.Starts.{starts_in}
+use Rattle.soundness.specs.from_rules_table.Walk.{Plan, walk_of}
+use Rattle.proof_plans.specs.from_rules_steps.Starts.{starts_in}
 use Rattle.proof_plans.specs.Planning.{IsFailureOf}
 use Rattle.trace_watch.specs.Cases.{watched, total_cases}
 use Rattle.trace_watch.specs.Tracing.{EndsAs}

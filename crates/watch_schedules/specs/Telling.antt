@@ -9,7 +9,7 @@ use Rattle.core_terms.specs.declared.programs.CProgram.{CProgram}
 use Rattle.core_terms.specs.declared.documents.CDocument.{CDocument}
 use Rattle.fair_rounds.specs.declared.records.Record.{Record}
 use Rattle.schedule_replay.specs.Lines.{word_text, state_line}
-use Rattle.cli_texts.specs.Verdicts.{step_line}
+use Rattle.soundness.specs.from_cli_texts.Verdicts.{step_line}
 use Rattle.certificate_printing.specs.Findings.{param_line, names_of}
 use Rattle.trace_watch.specs.declared.tracing.Ending.{Ending}
 use Rattle.trace_watch.specs.declared.violations.Violation.{Violation}

@@ -4,7 +4,7 @@ ghost use Rattle.std.specs.Prelude.{[]};
 ghost use Rattle.std.specs.Fmt.{signed_decimal};
 ghost use Rattle.std.specs.List.{flat_map};
 ghost use Rattle.schedule_replay.specs.Lines as line;
-ghost use Rattle.cli_texts.specs.Verdicts as verdict;
+ghost use Rattle.soundness.specs.from_cli_texts.Verdicts as verdict;
 ghost use Rattle.certificate_printing.specs.Findings as finding;
 ghost use Rattle.trace_watch.specs.Cases.{case_count, environments};
 ghost use Rattle.core_terms.specs.Conditions.{IsCoreDocument};

@@ -7,10 +7,10 @@ ghost use Rattle.wp_substitution.specs.Preconditions.{slot_after};
 ghost use Rattle.wp_substitution.specs.Joined.{IsLightWrite};
 ghost use Rattle.wp_substitution.specs.Chains.{chain_at, IsChain, AreChains};
 
+use core_terms::from_unity_base::Shared;
 use core_terms::{CTerm, CWrite, choice_known, held_form, held_term, number_of, truth_of};
 use std::alloc::{AllocError, Global};
 use std::collections::BTreeMap;
-use unity_base::Shared;
 
 /// The term of what a slot holds after some writes, and its number where it names no slot and no parameter.
 #[derive(Drop)]

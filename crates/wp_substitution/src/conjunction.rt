@@ -8,9 +8,9 @@ ghost use Rattle.core_terms.specs.Weights.{plain_weight};
 ghost use Rattle.core_terms.specs.Folding.{truth_of};
 ghost use Rattle.wp_substitution.specs.Joined.{joined_with, or_top, IsFolded, ConjunctionKnown};
 
+use core_terms::from_unity_base::Shared;
 use core_terms::{CForm, Joining, joined_known};
 use std::alloc::{AllocError, Global};
-use unity_base::Shared;
 
 /// The formulas so far, joined; none where there was none yet. Beside them stands the truth of the whole,
 /// where it is known.

@@ -18,12 +18,12 @@ use crate::agreeing::agree;
 use crate::conjunction::Conjunction;
 use crate::counting::any_open;
 use crate::known::{Known, known_pair, known_writes};
+use core_terms::from_unity_base::Shared;
 use core_terms::{
     CForm, CSlot, CStmt, CTerm, CWrite, Joining, Pairing, Range, Sense, held_form, held_term,
     joined_known, not_known, number_of, owned_form, paired_known, sense_known, truth_of,
 };
 use std::alloc::{AllocError, Global};
-use unity_base::Shared;
 
 /// The formula that holds exactly where the statement is defined: no write lies outside an array, each
 /// value lies in the range of its slot, and no slot would get two values. It is

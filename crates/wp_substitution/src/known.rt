@@ -4,9 +4,9 @@ ghost use Rattle.std.specs.Int.RustNames.{unsigned_abs};
 ghost use Rattle.core_terms.specs.Folding.{joined};
 ghost use Rattle.wp_substitution.specs.Joined.{IsLightWrite, known_write, IsSmallKnown, known_pair};
 
+use core_terms::from_unity_base::Seq;
 use core_terms::{CWrite, number_of, truth_of};
 use std::alloc::{AllocError, Global};
-use unity_base::Seq;
 
 /// The truth of a write's condition and the number of its value, where they name no slot and no parameter.
 #[derive(Clone, Copy)]

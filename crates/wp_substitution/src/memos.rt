@@ -8,10 +8,10 @@ ghost use Rattle.wp_substitution.specs.Memos.{known_at, IsNewMemo, IsFormKnown, 
 ghost use Rattle.wp_substitution.specs.Memos.{IsTermPart, IsPart};
 
 use crate::chains::Chain;
+use core_terms::from_unity_base::Seq;
 use core_terms::{FormId, Mark, Pool, TermId};
 use std::alloc::{AllocError, Global};
 use std::collections::BTreeMap;
-use unity_base::Seq;
 
 /// The number of a formula, and its truth where it names no slot and no parameter.
 #[derive(Clone, Copy)]

@@ -11,9 +11,9 @@ ghost use Rattle.wp_substitution.specs.Exact.{HoldsBefore};
 use crate::chains::chains;
 use crate::definedness::held_defined;
 use crate::substitution;
+use core_terms::from_unity_base::Shared;
 use core_terms::{CForm, CSlot, CStmt, CWrite, Joining, joined_known, owned_form};
 use std::alloc::{AllocError, Global};
-use unity_base::Shared;
 
 /// The weakest precondition of the statement for `q`: the formula that holds exactly where the statement is
 /// defined and `q` holds after it (chapter 2 of the book). All written slots are replaced at once, and the

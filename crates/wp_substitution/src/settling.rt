@@ -11,10 +11,10 @@ use crate::chains::Chain;
 use crate::memos::{FormKnown, Memo, Part, TermKnown};
 use crate::nodes::{put_form_turn, put_term_turn};
 use crate::turning::{form_turn, term_turn};
+use core_terms::from_unity_base::Seq;
 use core_terms::{FormId, Pool};
 use std::alloc::{AllocError, Global};
 use std::collections::BTreeMap;
-use unity_base::Seq;
 
 /// What a formula of the pool becomes where its slots are replaced by what the table says of them, all at once.
 ///

@@ -12,13 +12,13 @@ ghost use Rattle.wp_substitution.specs.Chains.{chain_at, AreChains, form_by, ter
 ghost use Rattle.wp_substitution.specs.Chains.{after_weight};
 
 use crate::chains::Chain;
+use core_terms::from_unity_base::Shared;
 use core_terms::{
     CForm, CTerm, Dividing, Joining, Pairing, Sense, constant_known, divided_known, joined_known,
     not_known, paired_known, scaled_known, sense_known, truth_known, variable_known,
 };
 use std::alloc::{AllocError, Global};
 use std::collections::BTreeMap;
-use unity_base::Shared;
 
 /// The formula with its slots replaced; `truth` is then that of the result.
 ///

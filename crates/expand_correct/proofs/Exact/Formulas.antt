@@ -44,8 +44,10 @@ use Rattle.expand_correct.proofs.Values.Exactness.{expressions_exact}
 use Rattle.expand_correct.proofs.Values.Agreeing.{document_agrees}
 use Rattle.expand_declarations.specs.Texts.{Texts}
 use Rattle.expand_declarations.specs.References.{step_params}
-use Rattle.expand_steps.specs.ProofTerms.{Place, Terming, termed, param_bound, term_layer as form_term}
-use Rattle.expand_steps.specs.Steps.{with_param_bound, param_bounds, claim_formulas, rule_formulas}
+use Rattle.expand_documents.specs.from_expand_steps.ProofTerms.{Place, Terming, termed, param_bound}
+use Rattle.expand_documents.specs.from_expand_steps.ProofTerms.{term_layer as form_term}
+use Rattle.expand_documents.specs.from_expand_steps.Steps.{with_param_bound, param_bounds, claim_formulas}
+use Rattle.expand_documents.specs.from_expand_steps.Steps.{rule_formulas}
 use Rattle.expand_correct.specs.Exact.Parts.{EachItem, ProofStands, final_names}
 use Rattle.expand_correct.specs.Exact.ByNames.{document_scope}
 use Rattle.expand_correct.specs.Exact.Formulas.{IsExactFormula, ExactStep, FormulasByNames}

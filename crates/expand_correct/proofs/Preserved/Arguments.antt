@@ -28,8 +28,8 @@ use Rattle.core_terms.specs.Values.{number_at}
 use Rattle.expand_rules.specs.declared.cores.Bound.{Bound}
 use Rattle.expand_correct.specs.Values.Worth.{bound_value, values_of}
 use Rattle.expand_correct.proofs.Exact.Standing.{proofs_stand, parts_faultless}
-use Rattle.expand_steps.specs.ProofTerms.{param_bound}
-use Rattle.expand_steps.specs.Steps.{with_param_bound, param_bounds}
+use Rattle.expand_documents.specs.from_expand_steps.ProofTerms.{param_bound}
+use Rattle.expand_documents.specs.from_expand_steps.Steps.{with_param_bound, param_bounds}
 use Rattle.expand_correct.specs.Preserved.Claims.{ArgumentsBound, ClaimSays, ClaimsSay, step_in}
 use Rattle.expand_correct.proofs.Preserved.Pairs.{entered_with}
 use Rattle.expand_correct.proofs.Preserved.Claims.{claims_by_bounds}

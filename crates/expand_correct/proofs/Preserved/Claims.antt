@@ -31,9 +31,10 @@ use Rattle.expand_correct.proofs.Values.SameSight.{formed_by_sight}
 use Rattle.expand_correct.specs.Exact.Parts.{EachItem}
 use Rattle.expand_correct.specs.Exact.Formulas.{IsExactFormula}
 use Rattle.expand_correct.proofs.Exact.Formulas.{formulas_seen}
-use Rattle.expand_steps.specs.Elements.{truth_in, form_in, flaws_in}
-use Rattle.expand_steps.specs.Steps.{param_bounds, step_place, claim_p, claim_q, claim_formulas, rule_formulas}
-use Rattle.expand_steps.specs.Steps.{step_formulas, step_fault, steps_fault, proof_fault}
+use Rattle.expand_documents.specs.from_expand_steps.Elements.{truth_in, form_in, flaws_in}
+use Rattle.expand_documents.specs.from_expand_steps.Steps.{param_bounds, step_place, claim_p, claim_q, claim_formulas}
+use Rattle.expand_documents.specs.from_expand_steps.Steps.{rule_formulas}
+use Rattle.expand_documents.specs.from_expand_steps.Steps.{step_formulas, step_fault, steps_fault, proof_fault}
 use Rattle.expand_documents.specs.Cores.{document_scope}
 use Rattle.expand_documents.specs.Faults.{body_fault, with_part, bodies_fault}
 use Rattle.expand_correct.specs.Preserved.Claims.{SameTruth, ClaimSays, ClaimsByBounds}

@@ -31,9 +31,9 @@ use Rattle.expand_correct.proofs.Values.SameSight.{formed_by_sight, assigned_by_
 use Rattle.expand_correct.specs.Exact.Parts.{EachItem}
 use Rattle.expand_correct.specs.Exact.ByNames.{ExactStatements, ExactSection, ExactInitially}
 use Rattle.expand_correct.proofs.Exact.Statements.{statements_seen, initially_seen}
-use Rattle.expand_statements.proofs.FaultlessLaws.{faultless_instances}
+use Rattle.expand_documents.proofs.lemmas_from_expand_statements.FaultlessLaws.{faultless_instances}
 use Rattle.expand_rules.proofs.FlawLaws.{flaws_first, flawless}
-use Rattle.expand_steps.specs.Elements.{flaws_in, some_too_large, element_fault}
+use Rattle.expand_documents.specs.from_expand_steps.Elements.{flaws_in, some_too_large, element_fault}
 use Rattle.expand_documents.specs.Cores.{document_scope}
 use Rattle.expand_documents.specs.Faults.{initially_fault, program_fault, body_fault, with_part, bodies_fault}
 use Rattle.expand_correct.specs.Preserved.Exact.{ProgramExact, ProgramsExact}

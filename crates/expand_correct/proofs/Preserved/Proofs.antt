@@ -17,7 +17,7 @@ use Rattle.expand_declarations.specs.WordNumbers.{document_words}
 use Rattle.meaning_documents.specs.Steps.{proofs_among}
 use Rattle.expand_declarations.proofs.NearIndices.{parts_fault}
 use Rattle.expand_rules.specs.Forming.{Scope}
-use Rattle.expand_steps.specs.Steps.{core_proof}
+use Rattle.expand_documents.specs.from_expand_steps.Steps.{core_proof}
 use Rattle.expand_documents.specs.Cores.{document_scope, core_proofs}
 use Rattle.expand_correct.specs.Preserved.Proofs.{ProofsMatch, ProofsFound}
 use Rattle.expand_correct.proofs.Preserved.Pairs.{named_some, entered_with}

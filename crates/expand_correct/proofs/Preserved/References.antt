@@ -43,8 +43,9 @@ use Rattle.expand_rules.specs.Documents.{within}
 use Rattle.expand_declarations.specs.References.{with_param, step_params, param_named, word_arg, core_arg}
 use Rattle.expand_declarations.specs.References.{core_ref, core_helper, pair_rule, text_rule}
 use Rattle.expand_declarations.proofs.PairRules.{of_pair_rule}
-use Rattle.expand_steps.specs.ProofTerms.{Place, Terming, term_layer, termed, pair_term, param_bound}
-use Rattle.expand_steps.specs.Steps.{with_param_bound, param_bounds, step_place, core_rule}
+use Rattle.expand_documents.specs.from_expand_steps.ProofTerms.{Place, Terming, term_layer, termed, pair_term}
+use Rattle.expand_documents.specs.from_expand_steps.ProofTerms.{param_bound}
+use Rattle.expand_documents.specs.from_expand_steps.Steps.{with_param_bound, param_bounds, step_place, core_rule}
 use Rattle.expand_documents.specs.Cores.{document_scope}
 use Rattle.expand_correct.specs.Preserved.References.{Referred, Referring, arg_number, core_referred}
 use Rattle.expand_correct.specs.Preserved.References.{core_referred_layer, core_references, rule_references, end_number}

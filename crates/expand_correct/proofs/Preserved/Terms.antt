@@ -44,9 +44,11 @@ use Rattle.expand_correct.proofs.Values.SameSight.{formed_by_sight}
 use Rattle.expand_correct.specs.Exact.Parts.{EachItem}
 use Rattle.expand_correct.specs.Exact.Formulas.{IsExactFormula}
 use Rattle.expand_correct.proofs.Exact.Formulas.{formulas_seen}
-use Rattle.expand_steps.specs.Elements.{truth_in, number_in, form_in, term_in, flaws_in}
-use Rattle.expand_steps.specs.ProofTerms.{Place, Terming, term_layer, termed, pair_term, param_bound}
-use Rattle.expand_steps.specs.Steps.{param_bounds, step_place, claim_formulas, rule_formulas, step_formulas, core_rule}
+use Rattle.expand_documents.specs.from_expand_steps.Elements.{truth_in, number_in, form_in, term_in, flaws_in}
+use Rattle.expand_documents.specs.from_expand_steps.ProofTerms.{Place, Terming, term_layer, termed, pair_term}
+use Rattle.expand_documents.specs.from_expand_steps.ProofTerms.{param_bound}
+use Rattle.expand_documents.specs.from_expand_steps.Steps.{param_bounds, step_place, claim_formulas, rule_formulas}
+use Rattle.expand_documents.specs.from_expand_steps.Steps.{step_formulas, core_rule}
 use Rattle.expand_documents.specs.Cores.{document_scope}
 use Rattle.expand_correct.specs.Preserved.Terms.{core_layer, core_worths, Weighing, source_layer, source_worths}
 use Rattle.expand_correct.specs.Preserved.Terms.{form_worth}

@@ -8,7 +8,7 @@ use Rattle.names_rules.specs.WellNamed.{IsWellNamed}
 use Rattle.expand_rules.specs.declared.cores.Formed.{Formed}
 use Rattle.expand_rules.specs.Forming.{Scope}
 use Rattle.expand_declarations.specs.Texts.{Texts}
-use Rattle.expand_steps.specs.Steps.{step_place, step_formulas}
+use Rattle.expand_documents.specs.from_expand_steps.Steps.{step_place, step_formulas}
 use Rattle.expand_correct.specs.Exact.Parts.{EachItem}
 use Rattle.expand_correct.specs.Exact.ByNames.{document_scope}
 

@@ -18,7 +18,7 @@ use Rattle.core_terms.specs.declared.documents.CStep.{CStep}
 use Rattle.core_terms.specs.Values.{form_value}
 use Rattle.expand_declarations.specs.WordNumbers.{document_words}
 use Rattle.expand_correct.specs.Values.Worth.{values_of}
-use Rattle.expand_steps.specs.Steps.{param_bounds, core_step}
+use Rattle.expand_documents.specs.from_expand_steps.Steps.{param_bounds, core_step}
 use Rattle.expand_documents.specs.Cores.{document_scope}
 use Rattle.expand_documents.specs.Faults.{expansion_fault}
 

@@ -8,7 +8,7 @@ use Rattle.names_rules.specs.WellNamed.{IsWellNamed}
 use Rattle.core_terms.specs.declared.programs.CProgram.{CProgram}
 use Rattle.expand_declarations.specs.WordNumbers.{document_words}
 use Rattle.meaning_documents.specs.Steps.{proofs_among}
-use Rattle.expand_steps.specs.Steps.{core_proof}
+use Rattle.expand_documents.specs.from_expand_steps.Steps.{core_proof}
 use Rattle.expand_documents.specs.Cores.{document_scope, core_document}
 use Rattle.expand_documents.specs.Faults.{expansion_fault}
 use Rattle.expand_correct.specs.Preserved.Meaning.{IsCoreProgramOf}

@@ -22,7 +22,7 @@ use Rattle.expand_declarations.specs.Texts.{Texts}
 use Rattle.expand_declarations.specs.WordNumbers.{document_words, word_number}
 use Rattle.expand_correct.specs.Values.Worth.{values_of}
 use Rattle.expand_declarations.specs.References.{step_params, ref_program, ref_step}
-use Rattle.expand_steps.specs.Steps.{param_bounds}
+use Rattle.expand_documents.specs.from_expand_steps.Steps.{param_bounds}
 use Rattle.meaning_documents.specs.Steps.{EachStep}
 use Rattle.expand_correct.specs.Preserved.Claims.{step_in}
 

@@ -19,7 +19,7 @@ use Rattle.core_terms.specs.declared.trees.CForm.{CForm}
 use Rattle.core_terms.specs.Values.{number_at, term_value, form_value}
 use Rattle.expand_correct.specs.Values.Worth.{values_of}
 use Rattle.expand_declarations.specs.References.{step_params}
-use Rattle.expand_steps.specs.Steps.{param_bounds}
+use Rattle.expand_documents.specs.from_expand_steps.Steps.{param_bounds}
 use Rattle.expand_documents.specs.Faults.{expansion_fault}
 use Rattle.meaning_documents.specs.Steps.{EachStep}
 use Rattle.expand_correct.specs.Preserved.Claims.{step_in}

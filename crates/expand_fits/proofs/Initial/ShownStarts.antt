@@ -39,9 +39,9 @@ use Rattle.expand_rules.specs.Forming.{Scope}
 use Rattle.expand_declarations.specs.Slots.{declared_by, document_slots}
 use Rattle.expand_declarations.specs.Shown.{shown_slots}
 use Rattle.expand_declarations.specs.Start.{start_slot, start_entry, start_values}
-use Rattle.expand_correct.proofs.Declared.Agreed.{variables_agree}
+use Rattle.expand_fits_parts.proofs.lemmas_from_expand_correct.Declared.Agreed.{variables_agree}
 use Rattle.expand_declarations.proofs.NearIndices.{parts_fault}
-use Rattle.expand_documents.specs.Cores.{declared_scope, part_definitions, document_scope}
+use Rattle.expand_fits_parts.specs.from_expand_documents.Cores.{declared_scope, part_definitions, document_scope}
 use Rattle.expand_fits_parts.specs.Forms.Naming.{SlotsPass}
 use Rattle.expand_fits_parts.specs.Forms.Placing.{declares}
 use Rattle.expand_fits_parts.specs.Forms.ShowingLaws.{names_apart}

@@ -48,16 +48,16 @@ use Rattle.expand_declarations.specs.Slots.{declared_by, document_slots}
 use Rattle.expand_declarations.specs.Start.{index_of, start_number, start_entry, start_values}
 use Rattle.expand_declarations.specs.Start.{enumeration_words, first_words}
 use Rattle.expand_declarations.proofs.StartLaws.{number-found}
-use Rattle.expand_correct.specs.Declared.Agreement.{slot_ends}
-use Rattle.expand_correct.proofs.Declared.Agreed.{variables_agree, ranges_agree}
+use Rattle.expand_fits_parts.specs.from_expand_correct.Declared.Agreement.{slot_ends}
+use Rattle.expand_fits_parts.proofs.lemmas_from_expand_correct.Declared.Agreed.{variables_agree, ranges_agree}
 use Rattle.expand_declarations.proofs.NearIndices.{parts_fault}
-use Rattle.expand_documents.specs.Cores.{declared_scope, part_definitions, document_scope}
+use Rattle.expand_fits_parts.specs.from_expand_documents.Cores.{declared_scope, part_definitions, document_scope}
 use Rattle.expand_fits.specs.StartConditions.{plain_enumeration, enumerations, StartsFit}
 use Rattle.expand_fits_parts.proofs.Conditions.Lists.{Pairs, pairs_of}
 use Rattle.expand_fits_parts.proofs.Conditions.Programs.{Makes, all_cores, union_makes}
 use Rattle.expand_fits.proofs.Initial.StartTables.{RangeOf, EnumerationOf, KnownVar, Tells, told_documents}
 use Rattle.expand_fits.proofs.Initial.StartSlots.{Follow, follow_all, at_most}
-use Rattle.expand_correct.proofs.Preserved.Sights.{first_found}
+use Rattle.expand_fits_parts.proofs.lemmas_from_expand_correct.Preserved.Sights.{first_found}
 use Rattle.expand_fits.proofs.Initial.Starts.{InitFine, HasSection, visible_there, some_same, located, slot_found}
 use Rattle.expand_fits.proofs.Initial.Starts.{start_at, same_variables, same_words, sections_are}
 

@@ -46,9 +46,10 @@ use Rattle.expand_declarations.specs.WordNumbers.{document_words, word_number}
 use Rattle.expand_rules.specs.Forming.{Scope}
 use Rattle.expand_declarations.specs.Slots.{document_slots}
 use Rattle.expand_declarations.specs.Start.{index_of, start_slot, start_entry, start_values}
-use Rattle.expand_documents.specs.AlwaysNames.{with_definition, with_definitions}
+use Rattle.expand_fits_parts.specs.from_expand_documents.AlwaysNames.{with_definition, with_definitions}
 use Rattle.expand_declarations.proofs.NearIndices.{parts_fault}
-use Rattle.expand_documents.specs.Cores.{core_document, declared_scope, part_definitions, document_scope}
+use Rattle.expand_fits_parts.specs.from_expand_documents.Cores.{core_document, declared_scope, part_definitions}
+use Rattle.expand_fits_parts.specs.from_expand_documents.Cores.{document_scope}
 use Rattle.expand_fits.specs.StartConditions.{StartsOnce}
 use Rattle.expand_fits_parts.proofs.Conditions.Lists.{Pairs, each_pair, pairs_on, pairs_with, pairs_map}
 use Rattle.expand_fits_parts.proofs.Conditions.Programs.{Makes, all_cores, union_makes}

@@ -21,7 +21,7 @@ use Rattle.meaning_documents.specs.Setting.{element_type, declarations, programs
 use Rattle.names_rules.specs.Declarations.{items_of}
 use Rattle.core_terms.specs.Conditions.{EachPair}
 use Rattle.expand_declarations.specs.Slots.{declared_by}
-use Rattle.expand_correct.proofs.Declared.Lists.{Pairs, each_pair}
+use Rattle.expand_fits_parts.proofs.lemmas_from_expand_correct.Declared.Lists.{Pairs, each_pair}
 use Rattle.expand_fits_parts.specs.Forms.ShowingLaws.{names_apart}
 use Rattle.expand_fits.specs.StartConditions.{plain_enumeration, enumerations}
 use Rattle.unity_parser.specs.ParseAnswers.{WordsRise}

@@ -12,7 +12,7 @@ use Rattle.unity_parser.specs.ParseAnswers.{WordsRise}
 use Rattle.unity_parser.proofs.Parsed.{words_stand}
 use Rattle.expand_fits.proofs.Sound.{documents_sound}
 use Rattle.names_rules.specs.WellNamed.{IsWellNamed}
-use Rattle.expand_documents.specs.Faults.{expansion_fault}
+use Rattle.expand_fits_parts.specs.from_expand_documents.Faults.{expansion_fault}
 use Rattle.expand_fits.specs.DocumentLaws.{IsWellFormedForCore}
 use Rattle.expand_fits.specs.ReadingLaws.{ReadSound, ReadCores}
 use Rattle.expand_fits.proofs.Parsed.Numerals.{NoneLarger, SmallTokens, numbers_small}

@@ -42,13 +42,14 @@ use Rattle.expand_declarations.specs.References.{with_param, step_params, param_
 use Rattle.expand_declarations.specs.References.{names_layer, term_names, param_named, word_arg, core_arg}
 use Rattle.expand_declarations.proofs.PairRules.{of_pair_rule}
 use Rattle.expand_rules.specs.Forming.{Scope}
-use Rattle.expand_steps.specs.ProofTerms.{Place, Terming, term_layer, termed, pair_term, ref_in, with_bound_name}
-use Rattle.expand_steps.specs.Steps.{step_place, core_rule, core_step, core_proof}
+use Rattle.expand_correct.specs.from_expand_steps.ProofTerms.{Place, Terming, term_layer, termed, pair_term, ref_in}
+use Rattle.expand_correct.specs.from_expand_steps.ProofTerms.{with_bound_name}
+use Rattle.expand_correct.specs.from_expand_steps.Steps.{step_place, core_rule, core_step, core_proof}
 use Rattle.meaning_documents.specs.Steps.{proofs_among}
 use Rattle.expand_correct.proofs.Declared.Found.{or_right}
 use Rattle.expand_declarations.proofs.NearIndices.{parts_fault}
 use Rattle.expand_declarations.proofs.Faultless.{each_of_run}
-use Rattle.expand_documents.specs.Cores.{document_scope, core_document}
+use Rattle.expand_correct.specs.from_expand_documents.Cores.{document_scope, core_document}
 use Rattle.expand_fits_parts.specs.Conditions.StepConditions.{ArgsNamed, RuleNamed, UsingNamed, RulesNamed}
 use Rattle.expand_fits_parts.proofs.Conditions.Proofs.{all_proofs}
 use Rattle.expand_fits_parts.proofs.Conditions.Numbering.{entered_length, new_param}

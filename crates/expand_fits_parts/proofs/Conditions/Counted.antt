@@ -28,7 +28,8 @@ use Rattle.expand_rules.specs.Forming.{Scope, fit_values}
 use Rattle.expand_rules.specs.Lists.{total, item_count, items_count, inside, item_fault, items_fault, first_fault}
 use Rattle.expand_rules.specs.Lists.{fault_at, place_where, is_empty_range, empty_place, large_place, range_place}
 use Rattle.expand_rules.specs.Lists.{range_fault}
-use Rattle.expand_statements.proofs.CountLaws.{count-Statement, count-Quantified, count-parts}
+use Rattle.expand_correct.proofs.lemmas_from_expand_statements.CountLaws.{count-Statement, count-Quantified}
+use Rattle.expand_correct.proofs.lemmas_from_expand_statements.CountLaws.{count-parts}
 use Rattle.expand_fits_parts.specs.Conditions.StatementConditions.{InstancesCounted}
 use Rattle.expand_fits_parts.proofs.Conditions.ItemLaws.{of_items, fault-Quantified, fault-Items}
 

@@ -31,12 +31,12 @@ use Rattle.names_laws.proofs.Tables.{Each, each_document}
 use Rattle.expand_declarations.specs.WordNumbers.{document_words}
 use Rattle.expand_declarations.specs.References.{with_param, step_params, word_arg, core_arg, text_rule}
 use Rattle.expand_declarations.proofs.PairRules.{of_pair_rule}
-use Rattle.expand_steps.specs.ProofTerms.{Place, ref_in}
-use Rattle.expand_steps.specs.Steps.{step_place, core_rule, core_step, core_proof}
+use Rattle.expand_correct.specs.from_expand_steps.ProofTerms.{Place, ref_in}
+use Rattle.expand_correct.specs.from_expand_steps.Steps.{step_place, core_rule, core_step, core_proof}
 use Rattle.meaning_documents.specs.Steps.{proofs_among}
 use Rattle.expand_declarations.proofs.NearIndices.{parts_fault}
 use Rattle.expand_declarations.proofs.Faultless.{each_of_run}
-use Rattle.expand_documents.specs.Cores.{document_scope}
+use Rattle.expand_correct.specs.from_expand_documents.Cores.{document_scope}
 use Rattle.expand_fits_parts.specs.Conditions.ArgumentConditions.{RuleIndexed, HelpersIndexed}
 use Rattle.expand_fits_parts.proofs.Conditions.Proofs.{all_proofs}
 

@@ -40,8 +40,9 @@ use Rattle.expand_correct.proofs.Declared.Found.{or_right}
 use Rattle.expand_correct.proofs.Declared.Lists.{IsPart}
 use Rattle.expand_correct.proofs.Declared.Slots.{each_part_texts}
 use Rattle.expand_correct.proofs.Declared.Names.{programs_differ}
-use Rattle.expand_documents.specs.Cores.{core_document, document_scope, core_named, core_union, core_program, with_core}
-use Rattle.expand_documents.specs.Cores.{with_cores}
+use Rattle.expand_correct.specs.from_expand_documents.Cores.{core_document, document_scope, core_named, core_union}
+use Rattle.expand_correct.specs.from_expand_documents.Cores.{core_program, with_core}
+use Rattle.expand_correct.specs.from_expand_documents.Cores.{with_cores}
 use Rattle.expand_fits_parts.specs.Conditions.WordConditions.{TextsHavePlaces, NumbersTellTexts, ProgramsHaveWords}
 use Rattle.expand_fits_parts.specs.Conditions.ProgramConditions.{ProgramNamesDiffer, UnionsFit}
 use Rattle.expand_fits_parts.proofs.Conditions.Lists.{Pairs, each_pair, pairs_of, pairs_on, pairs_with}

@@ -30,7 +30,7 @@ use Rattle.expand_declarations.specs.WordNumbers.{document_words, word_number}
 use Rattle.meaning_documents.specs.Steps.{between_kind, claim_kind, proofs_among}
 use Rattle.expand_declarations.specs.References.{param_range}
 use Rattle.expand_rules.specs.Forming.{Scope}
-use Rattle.expand_steps.specs.Steps.{core_step, core_proof, claim_p, claim_q, step_place}
+use Rattle.expand_correct.specs.from_expand_steps.Steps.{core_step, core_proof, claim_p, claim_q, step_place}
 use Rattle.expand_correct.specs.Declared.WordLaws.{is_among}
 use Rattle.expand_correct.proofs.Declared.Found.{numbers_tell, or_right}
 use Rattle.expand_correct.proofs.Declared.Lists.{IsPart, each_part}
@@ -38,7 +38,7 @@ use Rattle.expand_correct.proofs.Declared.Slots.{each_part_texts}
 use Rattle.expand_declarations.proofs.NearIndices.{parts_fault}
 use Rattle.expand_declarations.proofs.Faultless.{each_of_run}
 use Rattle.expand_correct.proofs.Declared.Names.{proofs_differ, steps_differ, params_have_ranges}
-use Rattle.expand_documents.specs.Cores.{document_scope, core_proofs}
+use Rattle.expand_correct.specs.from_expand_documents.Cores.{document_scope, core_proofs}
 use Rattle.expand_fits_parts.specs.Conditions.ProofConditions.{ProofProgramsDiffer, StepNamesDiffer}
 use Rattle.expand_fits_parts.specs.Conditions.ProofConditions.{ParametersHaveRanges, KindsFit}
 use Rattle.expand_fits_parts.proofs.Conditions.Lists.{each_pair, pairs_of, pairs_with, pairs_map}

@@ -28,13 +28,14 @@ use Rattle.expand_declarations.specs.WordNumbers.{document_words}
 use Rattle.expand_declarations.specs.Numbers.{core_range}
 use Rattle.expand_declarations.specs.References.{text_rule}
 use Rattle.expand_declarations.proofs.PairRules.{of_pair_rule}
-use Rattle.expand_steps.specs.ProofTerms.{Place, Terming, term_layer, termed, fixed_ends, pair_term, ref_in}
-use Rattle.expand_steps.specs.ProofTerms.{with_bound_name}
-use Rattle.expand_steps.specs.Steps.{step_place, core_rule, core_step, core_proof}
+use Rattle.expand_correct.specs.from_expand_steps.ProofTerms.{Place, Terming, term_layer, termed, fixed_ends, pair_term}
+use Rattle.expand_correct.specs.from_expand_steps.ProofTerms.{ref_in}
+use Rattle.expand_correct.specs.from_expand_steps.ProofTerms.{with_bound_name}
+use Rattle.expand_correct.specs.from_expand_steps.Steps.{step_place, core_rule, core_step, core_proof}
 use Rattle.meaning_documents.specs.Steps.{proofs_among}
 use Rattle.expand_declarations.proofs.NearIndices.{parts_fault}
 use Rattle.expand_declarations.proofs.Faultless.{each_of_run, sound_range}
-use Rattle.expand_documents.specs.Cores.{document_scope}
+use Rattle.expand_correct.specs.from_expand_documents.Cores.{document_scope}
 use Rattle.expand_fits_parts.specs.Conditions.TermConditions.{RuleHasRanges, BoundNamesHaveRanges}
 use Rattle.expand_fits_parts.proofs.Conditions.Proofs.{all_proofs}
 use Rattle.expand_fits_parts.proofs.Conditions.Terms.{at-Imply, at-From, at-Trans, at-Either, at-Exists, at-Induct}

@@ -34,9 +34,10 @@ use Rattle.expand_declarations.specs.References.{with_param, param_range, text_r
 use Rattle.expand_declarations.specs.References.{names_layer, term_names}
 use Rattle.expand_declarations.proofs.PairRules.{of_pair_rule}
 use Rattle.expand_rules.specs.Forming.{Scope}
-use Rattle.expand_steps.specs.ProofTerms.{Place, Terming, term_layer, termed, pair_term, ref_in, with_bound_name}
-use Rattle.expand_steps.specs.Steps.{step_place, core_rule, core_step}
-use Rattle.expand_documents.specs.Cores.{document_scope}
+use Rattle.expand_correct.specs.from_expand_steps.ProofTerms.{Place, Terming, term_layer, termed, pair_term, ref_in}
+use Rattle.expand_correct.specs.from_expand_steps.ProofTerms.{with_bound_name}
+use Rattle.expand_correct.specs.from_expand_steps.Steps.{step_place, core_rule, core_step}
+use Rattle.expand_correct.specs.from_expand_documents.Cores.{document_scope}
 use Rattle.expand_fits_parts.specs.Conditions.StepConditions.{ArgsNamed, RefsNamed}
 use Rattle.expand_fits_parts.proofs.Conditions.Terms.{at-Imply, at-From, at-Trans, at-Either, at-Exists, at-Induct}
 use Rattle.expand_fits_parts.proofs.Conditions.Terms.{at-Psp}

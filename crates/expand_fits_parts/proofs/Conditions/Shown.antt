@@ -32,7 +32,7 @@ use Rattle.expand_declarations.specs.References.{core_choice, core_schedule}
 use Rattle.expand_rules.specs.Forming.{Scope}
 use Rattle.expand_correct.specs.Declared.WordLaws.{is_among}
 use Rattle.expand_correct.proofs.Declared.Slots.{shown_exist, shown_rise}
-use Rattle.expand_documents.specs.Cores.{core_document, document_scope}
+use Rattle.expand_correct.specs.from_expand_documents.Cores.{core_document, document_scope}
 use Rattle.expand_fits_parts.specs.Conditions.ShownConditions.{ShownSlotsExist, ShownSlotsRise, SchedulesFit}
 use Rattle.expand_fits_parts.proofs.Conditions.Lists.{Pairs, each_pair, pairs_of, pairs_on}
 use Rattle.expand_fits_parts.proofs.Conditions.Programs.{Makes, all_cores, union_makes, is_word, itself, last_has}

@@ -26,14 +26,18 @@ use Rattle.expand_rules.specs.Forming.{Scope}
 use Rattle.expand_rules.specs.Assigning.{stated, statements}
 use Rattle.expand_rules.specs.Programs.{core_statement}
 use Rattle.expand_rules.specs.Lists.{items_fault, statement_count}
-use Rattle.expand_statements.specs.Counts.{too_many}
-use Rattle.expand_documents.specs.AlwaysNames.{definitions_fault, with_definitions}
+use Rattle.expand_correct.specs.from_expand_statements.Counts.{too_many}
+use Rattle.expand_correct.specs.from_expand_documents.AlwaysNames.{definitions_fault, with_definitions}
 use Rattle.expand_correct.proofs.Declared.Agreed.{variables_agree, counts_agree}
-use Rattle.expand_documents.specs.Cores.{document_scope, declared_scope, with_parts, part_definitions}
-use Rattle.expand_documents.specs.Cores.{core_named, core_union, core_program, with_core, with_cores}
-use Rattle.expand_documents.specs.Faults.{count_fault, heading_fault, headings_fault, headed, initially_fault, size_of}
-use Rattle.expand_documents.specs.Faults.{program_fault, body_fault, bodies_fault, laid_fault, slots_fault}
-use Rattle.expand_documents.specs.Faults.{parts_fault, expansion_fault}
+use Rattle.expand_correct.specs.from_expand_documents.Cores.{document_scope, declared_scope, with_parts}
+use Rattle.expand_correct.specs.from_expand_documents.Cores.{part_definitions}
+use Rattle.expand_correct.specs.from_expand_documents.Cores.{core_named, core_union, core_program, with_core}
+use Rattle.expand_correct.specs.from_expand_documents.Cores.{with_cores}
+use Rattle.expand_correct.specs.from_expand_documents.Faults.{count_fault, heading_fault, headings_fault, headed}
+use Rattle.expand_correct.specs.from_expand_documents.Faults.{initially_fault, size_of}
+use Rattle.expand_correct.specs.from_expand_documents.Faults.{program_fault, body_fault, bodies_fault, laid_fault}
+use Rattle.expand_correct.specs.from_expand_documents.Faults.{slots_fault}
+use Rattle.expand_correct.specs.from_expand_documents.Faults.{parts_fault, expansion_fault}
 use Rattle.expand_fits_parts.specs.Conditions.SizeConditions.{CoreSlotsAreFew, StatementsAreFew}
 use Rattle.expand_fits_parts.proofs.Conditions.Counted.{instances_counted}
 use Rattle.expand_fits_parts.proofs.Conditions.Programs.{IfThere, find_there}

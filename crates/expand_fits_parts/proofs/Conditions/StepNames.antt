@@ -33,12 +33,13 @@ use Rattle.expand_declarations.specs.References.{text_rule, pair_rule, ref_progr
 use Rattle.expand_declarations.specs.References.{rule_names}
 use Rattle.expand_declarations.proofs.PairRules.{of_pair_rule}
 use Rattle.expand_rules.specs.Forming.{Scope}
-use Rattle.expand_steps.specs.ProofTerms.{Place, Terming, term_layer, termed, pair_term, ref_in, with_bound_name}
-use Rattle.expand_steps.specs.Steps.{step_place, core_rule, core_step, core_proof}
+use Rattle.expand_correct.specs.from_expand_steps.ProofTerms.{Place, Terming, term_layer, termed, pair_term, ref_in}
+use Rattle.expand_correct.specs.from_expand_steps.ProofTerms.{with_bound_name}
+use Rattle.expand_correct.specs.from_expand_steps.Steps.{step_place, core_rule, core_step, core_proof}
 use Rattle.meaning_documents.specs.Steps.{proofs_among}
 use Rattle.expand_correct.specs.Declared.WordLaws.{is_among}
 use Rattle.expand_correct.proofs.Declared.Found.{or_right}
-use Rattle.expand_documents.specs.Cores.{document_scope}
+use Rattle.expand_correct.specs.from_expand_documents.Cores.{document_scope}
 use Rattle.expand_fits_parts.specs.Conditions.StepConditions.{StepsHaveWords}
 use Rattle.expand_fits_parts.proofs.Conditions.Programs.{is_word, itself, each_has, last_has}
 use Rattle.expand_fits_parts.proofs.Conditions.Proofs.{all_proofs, HasProof, HasStep, proof_steps, document_proofs}

@@ -18,10 +18,11 @@ use Rattle.core_terms.specs.Conditions.{ArgFits, Parts, parts_step, parts_of, al
 use Rattle.names_rules.specs.Declarations.{some_of}
 use Rattle.expand_declarations.specs.WordNumbers.{document_words}
 use Rattle.expand_declarations.proofs.PairRules.{of_pair_rule}
-use Rattle.expand_steps.specs.ProofTerms.{Place, Terming, term_layer, termed, pair_term, ref_in, with_bound_name}
-use Rattle.expand_steps.specs.Steps.{step_place, core_rule, core_step, core_proof}
+use Rattle.expand_correct.specs.from_expand_steps.ProofTerms.{Place, Terming, term_layer, termed, pair_term, ref_in}
+use Rattle.expand_correct.specs.from_expand_steps.ProofTerms.{with_bound_name}
+use Rattle.expand_correct.specs.from_expand_steps.Steps.{step_place, core_rule, core_step, core_proof}
 use Rattle.meaning_documents.specs.Steps.{proofs_among}
-use Rattle.expand_documents.specs.Cores.{document_scope}
+use Rattle.expand_correct.specs.from_expand_documents.Cores.{document_scope}
 use Rattle.expand_fits_parts.specs.Conditions.ArgumentConditions.{EndFits, ends_layer, term_ends, rule_ends}
 use Rattle.expand_fits_parts.specs.Conditions.ArgumentConditions.{StepLiterals}
 use Rattle.expand_fits_parts.specs.Conditions.ArgumentConditions.{RuleArgumentsFit, StepNumbersFit, StepsFit}

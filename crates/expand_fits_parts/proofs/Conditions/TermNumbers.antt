@@ -13,7 +13,8 @@ use Rattle.core_terms.specs.declared.documents.PTerm.TheVariants.{Imply, From, T
 use Rattle.core_terms.specs.declared.documents.PTerm.TheVariants.{Weaken}
 use Rattle.core_terms.specs.Conditions.{ArgFits, refs_step, term_refs}
 use Rattle.names_rules.specs.Declarations.{some_of}
-use Rattle.expand_steps.specs.ProofTerms.{Place, Terming, term_layer, pair_term, ref_in, with_bound_name}
+use Rattle.expand_correct.specs.from_expand_steps.ProofTerms.{Place, Terming, term_layer, pair_term, ref_in}
+use Rattle.expand_correct.specs.from_expand_steps.ProofTerms.{with_bound_name}
 use Rattle.expand_fits_parts.specs.Conditions.ArgumentConditions.{EndFits, ends_layer, TermArgumentsFit}
 use Rattle.expand_fits_parts.proofs.Conditions.ArgumentNumbers.{arguments_fit}
 use Rattle.expand_fits_parts.proofs.Conditions.Terms.{at-Imply, at-From, at-Trans, at-Either, at-Exists, at-Induct}

@@ -32,10 +32,11 @@ use Rattle.expand_declarations.specs.References.{param_range, names_layer, term_
 use Rattle.expand_declarations.specs.References.{text_rule}
 use Rattle.expand_declarations.proofs.PairRules.{of_pair_rule}
 use Rattle.expand_rules.specs.Forming.{Scope}
-use Rattle.expand_steps.specs.ProofTerms.{Place, Terming, pair_term, term_layer, termed, ref_in, with_bound_name}
-use Rattle.expand_steps.specs.Steps.{step_place, core_rule, core_step, core_proof}
+use Rattle.expand_correct.specs.from_expand_steps.ProofTerms.{Place, Terming, pair_term, term_layer, termed, ref_in}
+use Rattle.expand_correct.specs.from_expand_steps.ProofTerms.{with_bound_name}
+use Rattle.expand_correct.specs.from_expand_steps.Steps.{step_place, core_rule, core_step, core_proof}
 use Rattle.meaning_documents.specs.Steps.{proofs_among}
-use Rattle.expand_documents.specs.Cores.{document_scope}
+use Rattle.expand_correct.specs.from_expand_documents.Cores.{document_scope}
 use Rattle.expand_fits_parts.specs.Conditions.TermConditions.{ParametersNamed}
 use Rattle.expand_fits_parts.proofs.Conditions.Proofs.{all_proofs}
 

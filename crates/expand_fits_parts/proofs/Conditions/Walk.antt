@@ -46,8 +46,9 @@ use Rattle.meaning_documents.specs.Steps.{proofs_among}
 use Rattle.expand_correct.specs.Declared.WordLaws.{is_among}
 use Rattle.expand_correct.proofs.Declared.Found.{numbers_tell}
 use Rattle.expand_declarations.proofs.NearIndices.{parts_fault}
-use Rattle.expand_documents.specs.Cores.{core_document, document_scope, core_named, core_union, core_program, with_core}
-use Rattle.expand_documents.specs.Cores.{with_cores}
+use Rattle.expand_correct.specs.from_expand_documents.Cores.{core_document, document_scope, core_named, core_union}
+use Rattle.expand_correct.specs.from_expand_documents.Cores.{core_program, with_core}
+use Rattle.expand_correct.specs.from_expand_documents.Cores.{with_cores}
 use Rattle.expand_fits_parts.specs.Conditions.StatementConditions as instance
 use Rattle.expand_fits_parts.specs.Conditions.NamedConditions.{StatementsApart, ProofsNamed}
 use Rattle.expand_fits_parts.proofs.Conditions.Lists.{Pairs, each_pair, pairs_of, pairs_on, pairs_map, pairs_with}

@@ -40,15 +40,16 @@ use Rattle.expand_rules.specs.Assigning.{Stated, stated}
 use Rattle.expand_rules.specs.Lists.{items_fault}
 use Rattle.expand_rules.specs.Limits.{is_too_large}
 use Rattle.expand_rules.specs.Programs.{initial_form, core_statement, plain_core}
-use Rattle.expand_statements.specs.ItemLaws.{FaultlessInstances}
+use Rattle.expand_correct.specs.from_expand_statements.ItemLaws.{FaultlessInstances}
 use Rattle.expand_correct.proofs.Preserved.Faultless.{bodies_faultless}
 use Rattle.expand_correct.proofs.Values.Lightness.{expressions_within, fits_truth}
-use Rattle.expand_steps.specs.Elements.{flaws_in, some_too_large, element_fault}
-use Rattle.expand_documents.specs.AlwaysNames.{with_definition, with_definitions}
-use Rattle.expand_documents.specs.Cores.{declared_scope, part_definitions, document_scope, core_named}
-use Rattle.expand_documents.specs.Cores.{core_union, core_program, with_core, with_cores}
-use Rattle.expand_documents.specs.Faults.{initially_fault, body_fault, with_part}
-use Rattle.expand_documents.specs.Faults.{bodies_fault}
+use Rattle.expand_correct.specs.from_expand_steps.Elements.{flaws_in, some_too_large, element_fault}
+use Rattle.expand_correct.specs.from_expand_documents.AlwaysNames.{with_definition, with_definitions}
+use Rattle.expand_correct.specs.from_expand_documents.Cores.{declared_scope, part_definitions, document_scope}
+use Rattle.expand_correct.specs.from_expand_documents.Cores.{core_named}
+use Rattle.expand_correct.specs.from_expand_documents.Cores.{core_union, core_program, with_core, with_cores}
+use Rattle.expand_correct.specs.from_expand_documents.Faults.{initially_fault, body_fault, with_part}
+use Rattle.expand_correct.specs.from_expand_documents.Faults.{bodies_fault}
 use Rattle.expand_fits_parts.specs.Forms.Fitting.{ScopeFits}
 use Rattle.expand_fits_parts.specs.Forms.Programs.{ProgramFits, ProgramKeeps}
 use Rattle.expand_fits_parts.specs.Forms.DocumentLaws.{DocumentsFit, ProgramsFit}

@@ -45,11 +45,13 @@ use Rattle.expand_rules.specs.declared.cores.Bound.{Bound}
 use Rattle.expand_rules.specs.declared.cores.Formed.{Formed}
 use Rattle.expand_rules.specs.Measures.{ends_weight}
 use Rattle.expand_rules.specs.Forming.{Scope}
-use Rattle.expand_steps.specs.ProofTerms.{param_bound}
-use Rattle.expand_steps.specs.Steps.{with_param_bound, param_bounds, step_place, claim_p, claim_q, claim_formulas}
-use Rattle.expand_steps.specs.Steps.{rule_formulas, step_formulas, core_step, step_fault, steps_fault, core_proof}
-use Rattle.expand_documents.specs.Cores.{document_scope, core_proofs, core_document}
-use Rattle.expand_documents.specs.Faults.{body_fault, with_part, bodies_fault, expansion_fault}
+use Rattle.expand_correct.specs.from_expand_steps.ProofTerms.{param_bound}
+use Rattle.expand_correct.specs.from_expand_steps.Steps.{with_param_bound, param_bounds, step_place, claim_p, claim_q}
+use Rattle.expand_correct.specs.from_expand_steps.Steps.{claim_formulas}
+use Rattle.expand_correct.specs.from_expand_steps.Steps.{rule_formulas, step_formulas, core_step, step_fault}
+use Rattle.expand_correct.specs.from_expand_steps.Steps.{steps_fault, core_proof}
+use Rattle.expand_correct.specs.from_expand_documents.Cores.{document_scope, core_proofs, core_document}
+use Rattle.expand_correct.specs.from_expand_documents.Faults.{body_fault, with_part, bodies_fault, expansion_fault}
 use Rattle.names_rules.specs.WellNamed.{IsWellNamed}
 use Rattle.unity_syntax.specs.declared.document.Document.{Document}
 use Rattle.expand_fits_parts.specs.Forms.Fitting.{ScopeFits}

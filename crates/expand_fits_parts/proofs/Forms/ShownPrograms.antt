@@ -51,8 +51,8 @@ use Rattle.expand_declarations.specs.Start.{enumeration_words, first_words}
 use Rattle.expand_rules.specs.Forming.{Scope, formed}
 use Rattle.expand_rules.specs.Assigning.{Stated, stated}
 use Rattle.expand_rules.specs.Programs.{initial_form, core_statement}
-use Rattle.expand_documents.specs.AlwaysNames.{with_definition, with_definitions}
-use Rattle.expand_documents.specs.Cores.{part_definitions, with_parts, with_cores}
+use Rattle.expand_correct.specs.from_expand_documents.AlwaysNames.{with_definition, with_definitions}
+use Rattle.expand_correct.specs.from_expand_documents.Cores.{part_definitions, with_parts, with_cores}
 use Rattle.expand_fits_parts.specs.Forms.Naming.{SlotsPass, SeesOnly, EffectNames}
 use Rattle.expand_fits_parts.specs.Forms.Placing.{declares}
 use Rattle.expand_fits_parts.specs.Forms.Programs.{ProgramShows}

@@ -24,10 +24,11 @@ use Rattle.expand_declarations.specs.WordNumbers.{document_words}
 use Rattle.expand_declarations.specs.References.{with_param, param_range}
 use Rattle.expand_declarations.proofs.PairRules.{of_pair_rule}
 use Rattle.expand_rules.specs.Forming.{Scope}
-use Rattle.expand_steps.specs.ProofTerms.{Place, termed, ref_in}
-use Rattle.expand_steps.specs.Steps.{param_bounds, step_place, claim_formulas, rule_formulas, step_formulas}
-use Rattle.expand_steps.specs.Steps.{core_rule, core_step, step_fault}
-use Rattle.expand_documents.specs.Cores.{document_scope, core_document}
+use Rattle.expand_correct.specs.from_expand_steps.ProofTerms.{Place, termed, ref_in}
+use Rattle.expand_correct.specs.from_expand_steps.Steps.{param_bounds, step_place, claim_formulas, rule_formulas}
+use Rattle.expand_correct.specs.from_expand_steps.Steps.{step_formulas}
+use Rattle.expand_correct.specs.from_expand_steps.Steps.{core_rule, core_step, step_fault}
+use Rattle.expand_correct.specs.from_expand_documents.Cores.{document_scope, core_document}
 use Rattle.expand_fits_parts.specs.Forms.Fitting.{ScopeNames, ScopeFits}
 use Rattle.expand_fits_parts.specs.Forms.StepLaws.{RuleFits, RuleNumbered, TermsFit, NamesNumbered}
 use Rattle.expand_fits_parts.proofs.Forms.TermNumbers.{terms_numbered}

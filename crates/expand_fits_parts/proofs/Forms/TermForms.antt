@@ -31,9 +31,10 @@ use Rattle.expand_rules.specs.declared.cores.Bound.{Bound}
 use Rattle.expand_rules.specs.declared.cores.Formed.{Formed}
 use Rattle.expand_rules.specs.Measures.{ends_weight}
 use Rattle.expand_rules.specs.Forming.{Scope, formed}
-use Rattle.expand_steps.specs.Elements.{truth_in, number_in, form_in, term_in}
-use Rattle.expand_steps.specs.ProofTerms.{Place, Termed, Terming, fixed_ends, param_bound, with_bound_name, ref_in}
-use Rattle.expand_steps.specs.ProofTerms.{term_layer, termed}
+use Rattle.expand_correct.specs.from_expand_steps.Elements.{truth_in, number_in, form_in, term_in}
+use Rattle.expand_correct.specs.from_expand_steps.ProofTerms.{Place, Termed, Terming, fixed_ends, param_bound}
+use Rattle.expand_correct.specs.from_expand_steps.ProofTerms.{with_bound_name, ref_in}
+use Rattle.expand_correct.specs.from_expand_steps.ProofTerms.{term_layer, termed}
 use Rattle.expand_fits_parts.specs.Forms.Naming.{core_names_only}
 use Rattle.expand_fits_parts.specs.Forms.Fitting.{ScopeNames, ScopeFits}
 use Rattle.expand_fits_parts.specs.Forms.StepLaws.{ProofPartsFit}

@@ -21,9 +21,10 @@ use Rattle.core_terms.specs.declared.documents.PTerm.TheVariants.{rolls-Either, 
 use Rattle.core_terms.specs.declared.documents.PTerm.TheVariants.{rolls-Psp, rolls-Weaken}
 use Rattle.core_terms.specs.Conditions.{numbered_step}
 use Rattle.expand_declarations.specs.Numbers.{core_range}
-use Rattle.expand_steps.specs.Elements.{form_in, term_in}
-use Rattle.expand_steps.specs.ProofTerms.{Place, Terming, fixed_ends, with_bound_name, ref_in, pair_term}
-use Rattle.expand_steps.specs.ProofTerms.{term_layer, termed}
+use Rattle.expand_correct.specs.from_expand_steps.Elements.{form_in, term_in}
+use Rattle.expand_correct.specs.from_expand_steps.ProofTerms.{Place, Terming, fixed_ends, with_bound_name, ref_in}
+use Rattle.expand_correct.specs.from_expand_steps.ProofTerms.{pair_term}
+use Rattle.expand_correct.specs.from_expand_steps.ProofTerms.{term_layer, termed}
 
 abbrev Numbering : Type 0
 Numbering = ℕ → Option ℕ

@@ -12,7 +12,7 @@ use Rattle.core_terms.specs.declared.documents.PTerm.TheVariants.{Weaken, rolls-
 use Rattle.core_terms.specs.declared.documents.PTerm.TheVariants.{rolls-Either, rolls-Exists, rolls-Induct}
 use Rattle.core_terms.specs.declared.documents.PTerm.TheVariants.{rolls-Psp, rolls-Weaken}
 use Rattle.core_terms.specs.Conditions.{Parts, both_parts, parts_step, parts_of, ranges_step, bound_ranges}
-use Rattle.expand_steps.specs.ProofTerms.{pair_term}
+use Rattle.expand_correct.specs.from_expand_steps.ProofTerms.{pair_term}
 
 abbrev Partial : Type 0
 Partial = (ℕ → Bool) → Parts

@@ -23,10 +23,11 @@ use Rattle.expand_declarations.specs.WordNumbers.{document_words}
 use Rattle.expand_declarations.specs.Numbers.{core_range}
 use Rattle.expand_declarations.specs.References.{param_range}
 use Rattle.expand_declarations.proofs.PairRules.{of_pair_rule}
-use Rattle.expand_steps.specs.Elements.{form_in, term_in}
-use Rattle.expand_steps.specs.ProofTerms.{Place, Terming, fixed_ends, with_bound_name, ref_in, term_layer, termed}
-use Rattle.expand_steps.specs.Steps.{step_place, core_rule}
-use Rattle.expand_documents.specs.Cores.{document_scope}
+use Rattle.expand_correct.specs.from_expand_steps.Elements.{form_in, term_in}
+use Rattle.expand_correct.specs.from_expand_steps.ProofTerms.{Place, Terming, fixed_ends, with_bound_name, ref_in}
+use Rattle.expand_correct.specs.from_expand_steps.ProofTerms.{term_layer, termed}
+use Rattle.expand_correct.specs.from_expand_steps.Steps.{step_place, core_rule}
+use Rattle.expand_correct.specs.from_expand_documents.Cores.{document_scope}
 use Rattle.expand_fits_parts.specs.Forms.StepLaws.{IsReadRange, RuleReads, RangesRead}
 use Rattle.expand_fits_parts.proofs.Forms.Claims.{proofs_have}
 use Rattle.expand_fits_parts.proofs.Forms.TermParts.{parts-Imply, parts-From, parts-Exists, parts-Induct, parts-Psp}

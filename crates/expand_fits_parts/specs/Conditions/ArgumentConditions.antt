@@ -11,13 +11,13 @@ use Rattle.unity_syntax.specs.declared.document.Document.{Document}
 use Rattle.core_terms.specs.declared.documents.CRule.{CRule}
 use Rattle.core_terms.specs.declared.documents.CStep.{CStep}
 use Rattle.core_terms.specs.Conditions.{ArgFits, IsIndex, term_refs, rule_refs, parts_of}
-use Rattle.expand_steps.specs.ProofTerms.{Place, termed}
+use Rattle.expand_correct.specs.from_expand_steps.ProofTerms.{Place, termed}
 use Rattle.names_rules.specs.Declarations.{some_of}
 use Rattle.names_rules.specs.Scope.{Bounds, Params}
 use Rattle.names_rules.specs.WellNamed.{IsWellNamed}
 use Rattle.expand_declarations.specs.References.{core_args}
 use Rattle.meaning_documents.specs.Steps.{proofs_among}
-use Rattle.expand_documents.specs.Cores.{core_document}
+use Rattle.expand_correct.specs.from_expand_documents.Cores.{core_document}
 
 -- the number of an offset is within bounds
 abbrev pub OffsetFits : Option (Symbol × ℕ) → Type 0

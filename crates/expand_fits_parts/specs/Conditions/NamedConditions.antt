@@ -3,7 +3,7 @@ use Rattle.std.specs.Prelude.{All}
 use Rattle.unity_syntax.specs.declared.document.Document.{Document}
 use Rattle.core_terms.specs.Conditions.{EachPair, AreApart, IsNamed}
 use Rattle.names_rules.specs.WellNamed.{IsWellNamed}
-use Rattle.expand_documents.specs.Cores.{core_document}
+use Rattle.expand_correct.specs.from_expand_documents.Cores.{core_document}
 
 -- two statements of a program differ in label or indices, and those of one label have equally many indices,
 abbrev pub StatementsApart : Type 0

@@ -3,7 +3,7 @@ use Rattle.std.specs.Prelude.{◌≡◌, All}
 use Rattle.unity_syntax.specs.declared.document.Document.{Document}
 use Rattle.core_terms.specs.Conditions.{EachPair, IsRange, KindFits}
 use Rattle.names_rules.specs.WellNamed.{IsWellNamed}
-use Rattle.expand_documents.specs.Cores.{core_document}
+use Rattle.expand_correct.specs.from_expand_documents.Cores.{core_document}
 
 -- no two proofs are of one program,
 abbrev pub ProofProgramsDiffer : Type 0

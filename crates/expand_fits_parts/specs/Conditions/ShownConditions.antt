@@ -4,7 +4,7 @@ use Rattle.unity_syntax.specs.declared.document.Document.{Document}
 use Rattle.core_terms.specs.Conditions.{EachPair, ScheduleFits}
 use Rattle.names_rules.specs.WellNamed.{IsWellNamed}
 use Rattle.expand_declarations.specs.WordNumbers.{document_words}
-use Rattle.expand_documents.specs.Cores.{core_document}
+use Rattle.expand_correct.specs.from_expand_documents.Cores.{core_document}
 
 -- the slots that a program shows exist,
 abbrev pub ShownSlotsExist : Type 0

@@ -1,8 +1,8 @@
 -- A document without a fault of size has few slots, and its programs have statements, but not too many.
 use Rattle.std.specs.Prelude.{◌≡◌, ◌≤◌, length, None, All}
 use Rattle.unity_syntax.specs.declared.document.Document.{Document}
-use Rattle.expand_documents.specs.Cores.{core_document}
-use Rattle.expand_documents.specs.Faults.{expansion_fault}
+use Rattle.expand_correct.specs.from_expand_documents.Cores.{core_document}
+use Rattle.expand_correct.specs.from_expand_documents.Faults.{expansion_fault}
 
 -- there are at most 4,096 slots,
 abbrev pub CoreSlotsAreFew : Type 0

@@ -6,7 +6,7 @@ use Rattle.core_terms.specs.declared.documents.CRule.{CRule}
 use Rattle.core_terms.specs.Conditions.{StepWords, arg_names_only, parts_of, is_below, rule_ranges, rule_refs}
 use Rattle.names_rules.specs.WellNamed.{IsWellNamed}
 use Rattle.expand_declarations.specs.WordNumbers.{document_words}
-use Rattle.expand_documents.specs.Cores.{core_document}
+use Rattle.expand_correct.specs.from_expand_documents.Cores.{core_document}
 
 -- the names of steps and their parameters, and what their rules and `using` name, are words
 abbrev pub StepsHaveWords : Type 0

@@ -5,7 +5,7 @@ use Rattle.core_terms.specs.Conditions.{ProgramWords}
 use Rattle.expand_declarations.specs.Texts.{document_texts}
 use Rattle.expand_declarations.specs.WordNumbers.{document_words, word_number}
 use Rattle.expand_correct.specs.Declared.WordLaws.{is_among}
-use Rattle.expand_documents.specs.Cores.{core_document}
+use Rattle.expand_correct.specs.from_expand_documents.Cores.{core_document}
 
 -- a text that the core form names has its place,
 abbrev pub TextsHavePlaces : Type 0

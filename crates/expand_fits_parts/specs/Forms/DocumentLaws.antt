@@ -2,9 +2,9 @@
 use Rattle.std.specs.Prelude.{◌≡◌, List, None, All}
 use Rattle.unity_syntax.specs.declared.document.Document.{Document}
 use Rattle.core_terms.specs.declared.trees.Range.{Range}
-use Rattle.expand_statements.specs.ItemLaws.{FaultlessInstances}
-use Rattle.expand_documents.specs.Cores.{document_scope, core_document}
-use Rattle.expand_documents.specs.Faults.{expansion_fault}
+use Rattle.expand_correct.specs.from_expand_statements.ItemLaws.{FaultlessInstances}
+use Rattle.expand_correct.specs.from_expand_documents.Cores.{document_scope, core_document}
+use Rattle.expand_correct.specs.from_expand_documents.Faults.{expansion_fault}
 use Rattle.expand_fits_parts.specs.Forms.Fitting.{ScopeFits}
 use Rattle.expand_fits_parts.specs.Forms.Programs.{ProgramFits}
 

@@ -5,7 +5,7 @@ use Rattle.unity_syntax.specs.declared.program.Program.{Program}
 use Rattle.unity_syntax.specs.declared.document.Document.{Document}
 use Rattle.meaning_documents.specs.Setting.{programs_among}
 use Rattle.names_rules.specs.WellNamed.{IsWellNamed}
-use Rattle.expand_documents.specs.Cores.{core_document}
+use Rattle.expand_correct.specs.from_expand_documents.Cores.{core_document}
 use Rattle.expand_fits_parts.specs.Forms.Programs.{ProgramShows}
 
 -- whether the name of each program that is no union stands at a byte of its own, and at none of these

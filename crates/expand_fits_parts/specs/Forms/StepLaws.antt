@@ -14,8 +14,8 @@ use Rattle.expand_declarations.specs.Numbers.{core_range}
 use Rattle.core_terms.specs.Places.{form_names_only, term_names_only}
 use Rattle.core_terms.specs.Conditions.{FormFits, TermFits, Parts, parts_of, bound_ranges, any_place, is_below}
 use Rattle.core_terms.specs.Conditions.{NumbersBoundNames, rule_ranges}
-use Rattle.expand_documents.specs.Cores.{core_document}
-use Rattle.expand_documents.specs.Faults.{expansion_fault}
+use Rattle.expand_correct.specs.from_expand_documents.Cores.{core_document}
+use Rattle.expand_correct.specs.from_expand_documents.Faults.{expansion_fault}
 
 -- the formulas of a step's claim
 pub record StepClaimFits (slots : List CSlot) (c : CStep) : Type 0 where

@@ -4,10 +4,10 @@ use Rattle.std.specs.Io.KnownBytes.{Appends}
 use Rattle.unity_base.specs.Streams.{AppendsPart}
 use Rattle.case_tables.specs.declared.code_table.Code.{Code}
 use Rattle.unity_syntax.specs.declared.document.Document.{Document}
-use Rattle.expand_documents.specs.Cores.{core_document}
-use Rattle.proof_plans.specs.declared.plans.Plan.{Plan}
-use Rattle.proof_plans.specs.declared.plans.StepFault.{StepFault}
-use Rattle.proof_plans.specs.Verdicts.{verdict_of}
+use Rattle.fixed_correct.specs.from_expand_documents.Cores.{core_document}
+use Rattle.cli_texts.specs.from_proof_plans.declared.plans.Plan.{Plan}
+use Rattle.cli_texts.specs.from_proof_plans.declared.plans.StepFault.{StepFault}
+use Rattle.cli_texts.specs.from_proof_plans.Verdicts.{verdict_of}
 use Rattle.certificate_reading.specs.Certificates.{certificates_of}
 use Rattle.cli_texts.specs.Refusals.{fault_text, refusal_text}
 use Rattle.cli_texts.specs.Verdicts.{accepted_text, rejected_text}

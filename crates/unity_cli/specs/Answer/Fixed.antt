@@ -4,8 +4,8 @@ use Rattle.unity_syntax.specs.declared.document.Document.{Document}
 use Rattle.meaning_documents.specs.Programs.{Composed}
 use Rattle.schedule_replay.specs.Schedules.{turns}
 use Rattle.core_terms.specs.declared.programs.CProgram.{CProgram}
-use Rattle.expand_correct.specs.Preserved.Meaning.{IsCoreProgramOf}
-use Rattle.run_correct.specs.Traces.{source_system, first_state}
+use Rattle.fixed_correct.specs.from_expand_correct.Preserved.Meaning.{IsCoreProgramOf}
+use Rattle.fixed_correct.specs.from_run_correct.Traces.{source_system, first_state}
 use Rattle.fixed_runs.specs.Traces.{fixed_defined}
 use Rattle.fixed_correct.specs.Traces.{fixed_trace}
 use Rattle.unity_cli.specs.declared.status.Status.{Status}

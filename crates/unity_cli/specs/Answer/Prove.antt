@@ -1,12 +1,12 @@
 -- What `prove` answers.
 use Rattle.std.specs.Prelude.{◌≡◌, ℕ, ℤ, List, Result, Ok, Err}
 use Rattle.unity_syntax.specs.declared.document.Document.{Document}
-use Rattle.expand_documents.specs.Cores.{core_document}
+use Rattle.fixed_correct.specs.from_expand_documents.Cores.{core_document}
 use Rattle.core_terms.specs.declared.documents.CDocument.{CDocument}
-use Rattle.proof_plans.specs.declared.plans.Plan.{Plan}
-use Rattle.proof_plans.specs.declared.plans.StepFault.{StepFault}
+use Rattle.cli_texts.specs.from_proof_plans.declared.plans.Plan.{Plan}
+use Rattle.cli_texts.specs.from_proof_plans.declared.plans.StepFault.{StepFault}
 use Rattle.proof_script.specs.declared.plans.Proof.{Proof}
-use Rattle.proof_plans.specs.declared.plans.ScriptError.{ScriptError}
+use Rattle.cli_texts.specs.from_proof_plans.declared.plans.ScriptError.{ScriptError}
 use Rattle.proof_script.specs.Proving.{Finds, ProvedWithin}
 use Rattle.obligations.specs.declared.branches.Variable.{Variable}
 use Rattle.obligations.specs.declared.certificates.Cert.{Cert}

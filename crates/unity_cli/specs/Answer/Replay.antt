@@ -6,8 +6,8 @@ use Rattle.unity_syntax.specs.declared.document.Schedule.{Schedule}
 use Rattle.meaning_documents.specs.Programs.{Composed}
 use Rattle.schedule_replay.specs.declared.heading.Heading.{Heading}
 use Rattle.core_terms.specs.declared.programs.CProgram.{CProgram}
-use Rattle.run_correct.specs.Traces.{source_system, first_state}
-use Rattle.run_correct.specs.Answers.{IsReplay, IsUnknown}
+use Rattle.fixed_correct.specs.from_run_correct.Traces.{source_system, first_state}
+use Rattle.fixed_correct.specs.from_run_correct.Answers.{IsReplay, IsUnknown}
 use Rattle.cli_texts.specs.Refusals.{fault_text, refusal_text}
 use Rattle.unity_cli.specs.declared.status.Status.{Status}
 use Rattle.unity_cli.specs.Admitted.{greatest_size, IsAdmitted, IsBad}

@@ -6,9 +6,9 @@ use Rattle.meaning_documents.specs.Programs.{Composed, program_named, programs_o
 use Rattle.schedule_replay.specs.declared.heading.Heading.{Heading}
 use Rattle.schedule_replay.specs.Schedules.{turns}
 use Rattle.core_terms.specs.declared.programs.CProgram.{CProgram}
-use Rattle.expand_correct.specs.Preserved.Meaning.{IsCoreProgramOf}
+use Rattle.fixed_correct.specs.from_expand_correct.Preserved.Meaning.{IsCoreProgramOf}
 use Rattle.run_traces.specs.Traces.{all_defined}
-use Rattle.run_correct.specs.Traces.{source_system, first_state, program_trace}
+use Rattle.fixed_correct.specs.from_run_correct.Traces.{source_system, first_state, program_trace}
 use Rattle.cli_texts.specs.Refusals.{refusal_text}
 use Rattle.unity_cli.specs.declared.status.Status.{Status}
 use Rattle.unity_cli.specs.Admitted.{greatest_size, IsAdmitted, IsBad}

@@ -1,7 +1,7 @@
 -- What `upgrade` answers.
 use Rattle.std.specs.Prelude.{◌≡◌, ◌≤◌, ℕ, List, length}
 use Rattle.unity_syntax.specs.declared.document.Document.{Document}
-use Rattle.upgraded_texts.specs.Upgraded.{upgraded_text}
+use Rattle.plain_quotients.specs.from_upgraded_texts.Upgraded.{upgraded_text}
 use Rattle.unity_cli.specs.declared.status.Status.{Status}
 use Rattle.unity_cli.specs.Admitted.{greatest_bare_size, IsAdmitted, IsBad}
 use Rattle.unity_cli.specs.Answer.Check.{IsAccepted, IsRejected}

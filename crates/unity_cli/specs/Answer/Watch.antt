@@ -2,9 +2,9 @@
 use Rattle.std.specs.Prelude.{◌≡◌, ℕ, List, None}
 use Rattle.case_tables.specs.declared.code_table.Code.{Code}
 use Rattle.unity_syntax.specs.declared.document.Document.{Document}
-use Rattle.expand_documents.specs.Cores.{core_document}
-use Rattle.proof_plans.specs.declared.plans.StepFault.{StepFault}
-use Rattle.run_correct.specs.Answers.{IsUnknown}
+use Rattle.fixed_correct.specs.from_expand_documents.Cores.{core_document}
+use Rattle.cli_texts.specs.from_proof_plans.declared.plans.StepFault.{StepFault}
+use Rattle.fixed_correct.specs.from_run_correct.Answers.{IsUnknown}
 use Rattle.trace_watch.specs.declared.tracing.Ending.{Ending}
 use Rattle.trace_watch.specs.declared.violations.Violation.{Violation}
 use Rattle.watch_correct.specs.Watched.{HasManyCases, HasNoPlan, HasNoProof, ScheduleHasNoStart, IsWatched}

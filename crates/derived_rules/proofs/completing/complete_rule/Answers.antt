@@ -6,10 +6,10 @@ use Rattle.core_terms.specs.declared.programs.CSlot.{CSlot}
 use Rattle.core_terms.specs.declared.trees.CForm.{CForm}
 use Rattle.core_terms.specs.declared.trees.Range.{Range}
 use Rattle.fair_rounds.specs.declared.records.Record.{Record}
-use Rattle.rules_table.specs.Table.{Site, is_unless}
-use Rattle.rules_table.specs.Further.{is_leadsto, complete_of}
-use Rattle.rules_table.proofs.RowEquations.{complete-is}
-use Rattle.rules_table.proofs.FurtherSound.{complete_sound}
+use Rattle.safety_rules.specs.from_rules_table.Table.{Site, is_unless}
+use Rattle.safety_rules.specs.from_rules_table.Further.{is_leadsto, complete_of}
+use Rattle.safety_rules.proofs.lemmas_from_rules_table.RowEquations.{complete-is}
+use Rattle.safety_rules.proofs.lemmas_from_rules_table.FurtherSound.{complete_sound}
 use Rattle.safety_rules.specs.Answers.{site_of}
 use Rattle.safety_rules.specs.Usable.{NamesExist}
 use Rattle.safety_rules.proofs.UsableLaws.{usable, fits_max, fits_exist, exist_and, exist_or}

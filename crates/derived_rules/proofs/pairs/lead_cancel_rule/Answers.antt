@@ -7,10 +7,10 @@ use Rattle.core_terms.specs.declared.trees.Range.{Range}
 use Rattle.core_terms.specs.declared.trees.CForm.{out-CForm}
 use Rattle.core_terms.specs.declared.trees.CForm.TheVariants.{Bottom}
 use Rattle.fair_rounds.specs.declared.records.Record.{Record}
-use Rattle.rules_table.specs.Table.{Site, is_unless, is_invariant}
-use Rattle.rules_table.specs.Further.{is_leadsto, ends_on, first_side, lead_cancel_of}
-use Rattle.rules_table.proofs.RowEquations.{lead_cancel-is}
-use Rattle.rules_table.proofs.FurtherSound.{lead_cancel_sound}
+use Rattle.safety_rules.specs.from_rules_table.Table.{Site, is_unless, is_invariant}
+use Rattle.safety_rules.specs.from_rules_table.Further.{is_leadsto, ends_on, first_side, lead_cancel_of}
+use Rattle.safety_rules.proofs.lemmas_from_rules_table.RowEquations.{lead_cancel-is}
+use Rattle.safety_rules.proofs.lemmas_from_rules_table.FurtherSound.{lead_cancel_sound}
 use Rattle.safety_rules.specs.Answers.{site_of}
 use Rattle.safety_rules.specs.Usable.{NamesExist}
 use Rattle.safety_rules.proofs.UsableLaws.{usable, fits_max, fits_exist, exist_or}

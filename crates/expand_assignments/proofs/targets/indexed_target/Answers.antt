@@ -1,7 +1,7 @@
 use Rattle.std.proofs.Common.{option_map, sym, ap, ◌∙◌}
 use Rattle.std.proofs.lemmas.Result.{err_from_is_err_and}
 use Rattle.meaning_documents.specs.Names.{variable_named}
-use Rattle.names_rules.specs.Scope.{entries}
+use Rattle.expand_rules.specs.from_names_rules.Scope.{entries}
 use Rattle.expand_rules.specs.Forming.{as_number, formed, unwritten_count}
 use Rattle.expand_expressions.specs.Places.{scope, variable_of}
 use Rattle.expand_expressions.specs.Sound.{of_number, of_truth}

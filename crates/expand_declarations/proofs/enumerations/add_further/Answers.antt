@@ -1,5 +1,5 @@
 use Rattle.std.proofs.Common.{ap, ◌∙◌, ◌+◌, sym, drop, [], ◌∷◌, pos, add-one}
-use Rattle.meaning_documents.specs.Setting.{with_places}
+use Rattle.expand_expressions.specs.from_meaning_documents.Setting.{with_places}
 use Rattle.names_rules.specs.Scope.{entries}
 use Rattle.expand_declarations.proofs.LayoutLaws.{drop_item}
 use Rattle.expand_declarations.proofs.StartLaws.{words_more}

@@ -1,5 +1,5 @@
 use Rattle.std.proofs.Common.{◌≡◌, drop, ◌+◌}
-use Rattle.meaning_documents.specs.Setting.{with_places}
+use Rattle.expand_expressions.specs.from_meaning_documents.Setting.{with_places}
 use Rattle.names_rules.specs.Scope.{entries}
 use Rattle.expand_declarations.specs.Start.{with_words}
 use Rattle.expand_declarations.proofs.enumerations.add_further.Given as goal

@@ -1,7 +1,7 @@
 use Rattle.std.proofs.Common.{◌≡◌, OnOk, List, [], ◌∷◌, pos, sym, subst}
 use Rattle.unity_syntax.specs.declared.name.Name.{Name}
 use Rattle.unity_syntax.specs.declared.declaration.Plain.{Plain}
-use Rattle.meaning_documents.specs.Setting.{plain_words, with_places}
+use Rattle.expand_expressions.specs.from_meaning_documents.Setting.{plain_words, with_places}
 use Rattle.names_rules.specs.Scope.{entries}
 use Rattle.expand_declarations.specs.Start.{with_words}
 use Rattle.expand_declarations.proofs.StartLaws.{words_both}

@@ -1,5 +1,5 @@
 use Rattle.std.proofs.Common.{subst, ap, ◌∙◌, ℕ, ◌+◌, ◌≤◌, length}
-use Rattle.meaning_documents.specs.Setting.{slots_for}
+use Rattle.expand_expressions.specs.from_meaning_documents.Setting.{slots_for}
 use Rattle.expand_declarations.specs.Slots.{most_slots}
 use Rattle.expand_declarations.proofs.LayoutLaws.{laid_new, on_ok}
 use Rattle.expand_declarations.proofs.layout.lay_new.Goals as goal

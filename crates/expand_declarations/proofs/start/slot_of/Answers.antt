@@ -1,7 +1,7 @@
 use Rattle.std.proofs.Common.{◌∙◌, ap, sym, ℕ, Option}
 use Rattle.std.specs.Prelude.{unwrap_or, option_map}
 use Rattle.std.specs.Option.{option_and_then}
-use Rattle.meaning_documents.specs.Names.{slot_at}
+use Rattle.expand_expressions.specs.from_meaning_documents.Names.{slot_at}
 use Rattle.names_rules.specs.Scope.{entries}
 use Rattle.expand_expressions.specs.declared.places.VariableSlots.{VariableSlots}
 use Rattle.expand_expressions.specs.Places.{ends_of}

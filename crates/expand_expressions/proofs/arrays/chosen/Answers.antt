@@ -1,6 +1,6 @@
 use Rattle.std.proofs.Common.{ap, sym, ◌∙◌, Some, option_map}
 use Rattle.std.proofs.lemmas.Result.{IfOk-weaker}
-use Rattle.meaning_documents.specs.Names.{slot_at}
+use Rattle.expand_rules.specs.from_meaning_documents.Names.{slot_at}
 use Rattle.expand_expressions.specs.Places.{ends_of}
 use Rattle.expand_expressions.proofs.Elements.{chain_by}
 use Rattle.expand_expressions.proofs.arrays.chosen.Goals as goal

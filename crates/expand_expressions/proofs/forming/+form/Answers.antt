@@ -5,7 +5,7 @@ use Rattle.std.specs.Prelude.{fold}
 use Rattle.case_tables.specs.declared.symbol_table.Symbol.{Symbol}
 use Rattle.unity_syntax.specs.declared.expression.Expr.{Expr}
 use Rattle.meaning_executions.specs.Counting.{count_up}
-use Rattle.meaning_documents.specs.Names.{variable_named}
+use Rattle.expand_rules.specs.from_meaning_documents.Names.{variable_named}
 use Rattle.expand_rules.specs.declared.cores.Bound.{Bound}
 use Rattle.expand_rules.specs.Measures.{quantifier_measure, range_misfit}
 use Rattle.expand_rules.specs.Forming.{with_number, implication, factored, factor_in, plus}

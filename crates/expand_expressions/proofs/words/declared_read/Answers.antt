@@ -4,7 +4,7 @@ use Rattle.std.specs.Option.{option_or}
 use Rattle.std.specs.Map.{lookup}
 use Rattle.std.specs.Str.{bytes_eq}
 use Rattle.names_rules.specs.Scope.{entries}
-use Rattle.meaning_documents.specs.Names.{variable_named}
+use Rattle.expand_rules.specs.from_meaning_documents.Names.{variable_named}
 use Rattle.expand_rules.specs.Forming.{formed_or_zero, variable_formed, number_constant}
 use Rattle.expand_expressions.specs.Places.{slot_formed, plain_slots, variables_of}
 use Rattle.expand_expressions.proofs.Variables.{variable_is}

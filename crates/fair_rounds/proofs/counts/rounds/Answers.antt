@@ -1,6 +1,6 @@
 use Rattle.std.proofs.Common.{◌≡◌, ◌^◌, ◌<◌, ◌≤◌, [], length, take, arith, ap, ◌∙◌}
 use Rattle.std.proofs.lemmas.List.{take_all}
-use Rattle.meaning_executions.specs.Rounds as meaning
+use Rattle.meaning_laws.specs.from_meaning_executions.Rounds as meaning
 use Rattle.fair_rounds.proofs.CountLaws.{few_rounds}
 use Rattle.fair_rounds.proofs.counts.rounds.Goals as goal
 

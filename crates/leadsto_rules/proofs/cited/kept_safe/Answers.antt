@@ -6,7 +6,7 @@ use Rattle.core_terms.specs.Weights.{plain_weight}
 use Rattle.safety_rules.specs.Foldable.{IsFoldable}
 use Rattle.safety_rules.specs.Answers.{site_of}
 use Rattle.safety_rules.specs.Usable.{NamesExist}
-use Rattle.wp_substitution.proofs.LightLaws.{form_light}
+use Rattle.safety_rules.proofs.lemmas_from_wp_substitution.LightLaws.{form_light}
 use Rattle.leadsto_rules.proofs.NodeLaws.{node_gives, foldable, both_hold_exist, kept_exists}
 use Rattle.leadsto_rules.proofs.cited.kept_safe.Goals as goal
 

@@ -12,7 +12,7 @@ use Rattle.safety_rules.specs.Answers.{site_of}
 use Rattle.safety_rules.proofs.ErrorLaws.{handed_on}
 use Rattle.safety_rules.proofs.UsableLaws.{fits_exist}
 use Rattle.meaning_executions.specs.Counting.{range_size}
-use Rattle.wp_substitution.proofs.LightLaws.{form_light}
+use Rattle.safety_rules.proofs.lemmas_from_wp_substitution.LightLaws.{form_light}
 use Rattle.leadsto_rules.specs.Disjunctions.{GivesAny}
 use Rattle.leadsto_rules.specs.Leading.{TermGives}
 use Rattle.leadsto_rules.proofs.NodeLaws.{claim_fits, node_gives, bound_is, large_fails}

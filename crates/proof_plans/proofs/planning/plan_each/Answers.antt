@@ -3,7 +3,7 @@ use Rattle.std.proofs.Common.{arith}
 use Rattle.std.specs.Prelude.{sum}
 use Rattle.core_terms.specs.declared.documents.CProof.{CProof}
 use Rattle.core_terms.specs.Conditions.{IsProof}
-use Rattle.rules_table.specs.Walk.{program_of}
+use Rattle.safety_rules.specs.from_rules_table.Walk.{program_of}
 use Rattle.proof_plans.specs.declared.plans.Plan.{Plan}
 use Rattle.proof_plans.specs.declared.plans.ScriptError.{ScriptError}
 use Rattle.proof_plans.specs.Planning.{Reaches}
@@ -13,7 +13,7 @@ use Rattle.proof_plans.proofs.LoopLaws.{handed_on, item_has, sum_more}
 use Rattle.proof_plans.proofs.PlanLaws.{misses_whole}
 use Rattle.proof_plans.proofs.ReachLaws.{proof_reach_fits, reach_proofs_at, reach_proofs_end, reach_stopped}
 use Rattle.proof_plans.proofs.ReachLaws.{reach_went}
-use Rattle.rules_table.specs.Walk.{Around}
+use Rattle.safety_rules.specs.from_rules_table.Walk.{Around}
 use Rattle.rules_steps.specs.Starts.{seen_of}
 use Rattle.proof_plans.proofs.planning.plan_each.Goals as goal
 

@@ -3,7 +3,7 @@ use Rattle.core_terms.specs.declared.programs.CProgram.{CProgram}
 use Rattle.core_terms.specs.declared.documents.CStep.{CStep}
 use Rattle.core_terms.specs.declared.documents.CProof.{CProof}
 use Rattle.fair_rounds.specs.declared.records.Record.{Record}
-use Rattle.rules_table.specs.Walk.{has_defined}
+use Rattle.safety_rules.specs.from_rules_table.Walk.{has_defined}
 use Rattle.proof_plans.specs.declared.plans.Plan.{Plan}
 use Rattle.proof_plans.specs.declared.plans.ScriptError.{ScriptError}
 use Rattle.proof_plans.specs.Planning.{Reaches}
@@ -11,7 +11,7 @@ use Rattle.proof_plans.specs.Reaching.{Reach, end_reach, proof_reach, steps_reac
 use Rattle.proof_plans.proofs.LoopLaws.{handed_on}
 use Rattle.proof_plans.proofs.PlanLaws.{misses_whole}
 use Rattle.proof_plans.proofs.ReachLaws.{proof_done, proof_undone, reach_stopped}
-use Rattle.rules_table.specs.Walk.{Around}
+use Rattle.safety_rules.specs.from_rules_table.Walk.{Around}
 use Rattle.rules_steps.specs.Starts.{seen_of}
 use Rattle.proof_plans.proofs.planning.plan_program.Goals as goal
 

@@ -2,7 +2,7 @@ use Rattle.std.proofs.Common.{◌≡◌, List, Some, Ok, Err, subst, sym, ap, �
 use Rattle.core_terms.specs.declared.programs.CProgram.{CProgram}
 use Rattle.core_terms.specs.declared.documents.CStep.{CStep}
 use Rattle.fair_rounds.specs.declared.records.Record.{Record}
-use Rattle.rules_table.specs.Walk.{rule_of}
+use Rattle.safety_rules.specs.from_rules_table.Walk.{rule_of}
 use Rattle.safety_rules.specs.declared.places.RuleError.{RuleError}
 use Rattle.safety_rules.specs.Answers.{RuleAnswers}
 use Rattle.proof_plans.specs.declared.plans.Plan.{Plan}
@@ -11,7 +11,7 @@ use Rattle.proof_plans.specs.Planning.{Reaches}
 use Rattle.proof_plans.specs.Reaching.{step_reach}
 use Rattle.proof_plans.specs.Verdicts.{rule_fault}
 use Rattle.proof_plans.proofs.ReachLaws.{reach_fails, reach_taken}
-use Rattle.rules_table.specs.Walk.{Around}
+use Rattle.safety_rules.specs.from_rules_table.Walk.{Around}
 use Rattle.rules_steps.specs.Starts.{seen_of}
 use Rattle.proof_plans.proofs.planning.plan_step.Goals as goal
 

@@ -11,7 +11,7 @@ use Rattle.proof_plans.proofs.LoopLaws.{handed_on, item_has}
 use Rattle.proof_plans.proofs.PlanLaws.{misses_whole}
 use Rattle.proof_plans.proofs.ReachLaws.{reach_fits, reach_grows, reach_steps_at, reach_steps_end, reach_stopped}
 use Rattle.proof_plans.proofs.ReachLaws.{reach_went}
-use Rattle.rules_table.specs.Walk.{Around}
+use Rattle.safety_rules.specs.from_rules_table.Walk.{Around}
 use Rattle.rules_steps.specs.Starts.{seen_of}
 use Rattle.proof_plans.proofs.planning.plan_steps.Goals as goal
 

@@ -1,6 +1,6 @@
 use Rattle.std.proofs.Common.{sym, ap, ◌∙◌, subst, Err}
 use Rattle.core_terms.specs.declared.documents.CDocument.{CDocument}
-use Rattle.rules_table.specs.Walk.{walk_of}
+use Rattle.safety_rules.specs.from_rules_table.Walk.{walk_of}
 use Rattle.proof_plans.specs.declared.plans.Plan.{Plan}
 use Rattle.proof_plans.specs.declared.plans.ScriptError.{ScriptError}
 use Rattle.proof_plans.specs.Planning.{Reaches, Walks}

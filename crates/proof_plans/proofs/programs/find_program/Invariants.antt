@@ -1,5 +1,5 @@
 use Rattle.std.proofs.Common.{◌≡◌, drop}
-use Rattle.rules_table.specs.Walk.{program_of}
+use Rattle.safety_rules.specs.from_rules_table.Walk.{program_of}
 use Rattle.proof_plans.proofs.programs.find_program.Given as goal
 
 abbrev pub invariant-loop-program : goal.invariant-loop-program

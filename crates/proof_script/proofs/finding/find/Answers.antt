@@ -1,8 +1,8 @@
 use Rattle.std.proofs.Common.{List, length, subst, ap, refl}
 use Rattle.obligations.specs.declared.branches.Obligation.{Obligation}
 use Rattle.obligations.specs.declared.certificates.Cert.{Cert}
-use Rattle.search_tree.specs.declared.searching.Found.{Found}
-use Rattle.search_tree.specs.Searching.{SearchAnswers}
+use Rattle.proof_search.specs.from_search_tree.declared.searching.Found.{Found}
+use Rattle.proof_search.specs.from_search_tree.Searching.{SearchAnswers}
 use Rattle.proof_script.specs.declared.finding.Finding.{Finding}
 use Rattle.proof_script.proofs.SearchLaws.{found_one, refuted_one, short_one}
 use Rattle.proof_script.proofs.finding.find.Goals as goal

@@ -5,7 +5,7 @@ use Rattle.obligations.specs.Obligations.{IsObligation}
 use Rattle.proof_script.specs.declared.finding.Finding.{Finding}
 use Rattle.proof_script.specs.declared.finding.Halt.{Halt}
 use Rattle.proof_script.specs.Searches.{HasCertificates, Searches}
-use Rattle.rules_steps.proofs.ItemLaws.{drop_at, drop_end}
+use Rattle.proof_plans.proofs.lemmas_from_rules_steps.ItemLaws.{drop_at, drop_end}
 use Rattle.proof_plans.proofs.LoopLaws.{item_has}
 use Rattle.proof_plans.proofs.ReachLaws.{no_more}
 use Rattle.proof_script.proofs.SearchLaws.{halted_on, search_more}

@@ -1,4 +1,4 @@
-use Rattle.search_tree.proofs.EndsLaws.{search-ends}
+use Rattle.proof_search.proofs.lemmas_from_search_tree.EndsLaws.{search-ends}
 use Rattle.proof_script.proofs.BudgetLaws.{suffices}
 use Rattle.proof_script.proofs.SomeLaws.{some_finding}
 use Rattle.proof_plans.proofs.WalkLaws.{reach_is_walk}

@@ -2,7 +2,7 @@ use Rattle.std.proofs.Common.{List, ◌∷◌, [], ◌++◌, ap}
 use Rattle.std.proofs.lemmas.Result.{on_ok_weaker}
 use Rattle.unity_base.specs.declared.events.CertEvent.{CertEvent}
 use Rattle.obligations.specs.declared.certificates.Node.{Node}
-use Rattle.event_checker.specs.Events.{events_of}
+use Rattle.certificate_check.specs.from_event_checker.Events.{events_of}
 use Rattle.event_judge.specs.Told.{cert_events}
 use Rattle.proof_script.proofs.TellingLaws.{told-so, told-then}
 use Rattle.proof_script.proofs.telling.tell_cert.Goals as goal

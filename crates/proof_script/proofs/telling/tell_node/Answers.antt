@@ -2,7 +2,7 @@ use Rattle.std.proofs.Common.{List, ◌∷◌, [], map, ap}
 use Rattle.std.proofs.lemmas.Result.{on_ok_weaker}
 use Rattle.unity_base.specs.declared.events.CertEvent.{CertEvent}
 use Rattle.obligations.specs.Certificates.{node_pairs}
-use Rattle.event_checker.specs.Events.{beginning, pair_event}
+use Rattle.certificate_check.specs.from_event_checker.Events.{beginning, pair_event}
 use Rattle.proof_script.proofs.TellingLaws.{told-so, told-then}
 use Rattle.proof_script.proofs.telling.tell_node.Goals as goal
 

@@ -1,5 +1,5 @@
 use Rattle.std.proofs.Common.{◌+◌, ◌++◌, take}
-use Rattle.event_checker.specs.Events.{events_of, node_events}
+use Rattle.certificate_check.specs.from_event_checker.Events.{events_of, node_events}
 use Rattle.proof_script.proofs.TellingLaws.{flat-all, flat-next, told-none, told-so, told-then}
 use Rattle.proof_script.proofs.telling.tell_nodes.Goals as goal
 

@@ -1,5 +1,5 @@
 use Rattle.std.proofs.Common.{take}
-use Rattle.event_checker.specs.Events.{events_of}
+use Rattle.certificate_check.specs.from_event_checker.Events.{events_of}
 use Rattle.event_judge.specs.Judges.{JudgeIsReady}
 use Rattle.proof_script.specs.Telling.{JudgeIsTold}
 use Rattle.proof_script.proofs.telling.tell_nodes.Given as goal

@@ -1,5 +1,5 @@
 use Rattle.std.proofs.Common.{◌+◌, map, take}
-use Rattle.event_checker.specs.Events.{pair_event}
+use Rattle.certificate_check.specs.from_event_checker.Events.{pair_event}
 use Rattle.proof_script.proofs.TellingLaws.{map-all, map-next, told-none, told-so, told-then}
 use Rattle.proof_script.proofs.telling.tell_pairs.Goals as goal
 

@@ -1,5 +1,5 @@
 use Rattle.std.proofs.Common.{◌≡◌, drop}
-use Rattle.rules_table.specs.Walk.{has_defined}
+use Rattle.safety_rules.specs.from_rules_table.Walk.{has_defined}
 use Rattle.rules_steps.proofs.kinds.has_defined.Given as goal
 
 abbrev pub invariant-loop-record : goal.invariant-loop-record

@@ -2,8 +2,8 @@ use Rattle.std.proofs.Common.{nat_eq, not, List, sym}
 use Rattle.case_tables.specs.declared.code_table.Code.{Code}
 use Rattle.core_terms.specs.declared.documents.Arg.{Arg}
 use Rattle.fair_rounds.specs.declared.records.Record.{Record}
-use Rattle.rules_table.specs.Table.{Site, needs, instance_of}
-use Rattle.rules_table.specs.Walk.{is_kind}
+use Rattle.safety_rules.specs.from_rules_table.Table.{Site, needs, instance_of}
+use Rattle.safety_rules.specs.from_rules_table.Walk.{is_kind}
 use Rattle.safety_rules.specs.Answers.{site_of, IsPremiseAt}
 use Rattle.safety_rules.proofs.InstanceLaws.{record_stands}
 use Rattle.rules_steps.proofs.GoodLaws.{premise_is}

@@ -1,6 +1,6 @@
 use Rattle.std.proofs.Common.{◌++◌, length, subst, sym}
 use Rattle.core_terms.specs.declared.documents.CRule.{CRule}
-use Rattle.rules_table.specs.Walk as walk
+use Rattle.safety_rules.specs.from_rules_table.Walk as walk
 use Rattle.safety_rules.specs.Answers.{site_of, RuleAnswers}
 use Rattle.core_terms.specs.Conditions.{RuleWellScoped, is_below, rule_ranges}
 use Rattle.rules_steps.specs.Starts.{seen_with}

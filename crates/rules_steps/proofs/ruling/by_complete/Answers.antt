@@ -3,10 +3,10 @@ use Rattle.case_tables.specs.declared.kind_table.Kind.{Kind}
 use Rattle.case_tables.specs.declared.code_table.Code.{Code}
 use Rattle.core_terms.specs.declared.documents.Ref.{Ref}
 use Rattle.fair_rounds.specs.declared.records.Record.{Record}
-use Rattle.rules_table.specs.Further.{complete_of}
-use Rattle.rules_table.specs.Table.{Site, go_on}
-use Rattle.rules_table.specs.Terms.{referred}
-use Rattle.rules_table.specs.Walk.{is_kind}
+use Rattle.safety_rules.specs.from_rules_table.Further.{complete_of}
+use Rattle.safety_rules.specs.from_rules_table.Table.{Site, go_on}
+use Rattle.safety_rules.specs.from_rules_table.Terms.{referred}
+use Rattle.safety_rules.specs.from_rules_table.Walk.{is_kind}
 use Rattle.safety_rules.specs.Answers.{site_of}
 use Rattle.rules_steps.proofs.AnswerLaws.{answered_on}
 use Rattle.rules_steps.proofs.ruling.by_complete.Goals as goal

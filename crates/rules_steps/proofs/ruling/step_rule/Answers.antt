@@ -8,7 +8,7 @@ use Rattle.core_terms.specs.declared.documents.Ref.{Ref}
 use Rattle.core_terms.specs.declared.documents.CStep.{CStep}
 use Rattle.core_terms.specs.Conditions.{FormFits, IsRange}
 use Rattle.fair_rounds.specs.declared.records.Record.{Record}
-use Rattle.rules_table.specs.Walk.{step_site, applied, used, rule_of}
+use Rattle.safety_rules.specs.from_rules_table.Walk.{step_site, applied, used, rule_of}
 use Rattle.safety_rules.specs.Answers.{RuleAnswers}
 use Rattle.rules_steps.specs.Using.{Uses}
 use Rattle.rules_steps.specs.Starts.{seen_of}

@@ -1,7 +1,7 @@
 use Rattle.std.proofs.Common.{Result, subst}
 use Rattle.fair_rounds.specs.declared.records.Record.{Record}
-use Rattle.rules_table.specs.Further.{complete_of}
-use Rattle.rules_table.specs.Table.{go_on}
+use Rattle.safety_rules.specs.from_rules_table.Further.{complete_of}
+use Rattle.safety_rules.specs.from_rules_table.Table.{go_on}
 use Rattle.safety_rules.specs.declared.places.RuleError.{RuleError}
 use Rattle.safety_rules.specs.Answers.{site_of}
 use Rattle.safety_rules.specs.Instances.{AnswersRecord}

@@ -4,9 +4,10 @@ use Rattle.case_tables.specs.declared.code_table.Code.{Code}
 use Rattle.core_terms.specs.declared.programs.CSlot.{CSlot}
 use Rattle.core_terms.specs.declared.documents.Ref.{Ref}
 use Rattle.fair_rounds.specs.declared.records.Record.{Record}
-use Rattle.rules_table.specs.Conclusion.{Conclusion}
-use Rattle.rules_table.specs.Table.{Site, go_on}
-use Rattle.rules_table.specs.Walk.{first_part, second_part, serves_union, serves_after, part_record, united}
+use Rattle.safety_rules.specs.from_rules_table.Conclusion.{Conclusion}
+use Rattle.safety_rules.specs.from_rules_table.Table.{Site, go_on}
+use Rattle.safety_rules.specs.from_rules_table.Walk.{first_part, second_part, serves_union, serves_after, part_record}
+use Rattle.safety_rules.specs.from_rules_table.Walk.{united}
 use Rattle.safety_rules.specs.declared.places.RuleError.{RuleError}
 use Rattle.safety_rules.specs.Answers.{site_of, RuleAnswers}
 use Rattle.safety_rules.specs.Instances.{AnswersRecord}

@@ -3,7 +3,7 @@ use Rattle.core_terms.specs.declared.trees.CForm.{CForm}
 use Rattle.core_terms.specs.declared.programs.CProgram.{CProgram}
 use Rattle.core_terms.specs.declared.documents.Ref.{Ref}
 use Rattle.fair_rounds.specs.declared.records.Record.{Record}
-use Rattle.rules_table.specs.Walk.{used}
+use Rattle.safety_rules.specs.from_rules_table.Walk.{used}
 use Rattle.rules_steps.specs.Using.{Uses, use_of}
 use Rattle.rules_steps.proofs.UsingLaws.{handed_back, after_these, used_next, used_fails, used_end, none_before}
 use Rattle.rules_steps.proofs.UsingLaws.{fails_used}

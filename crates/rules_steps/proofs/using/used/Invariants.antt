@@ -1,5 +1,5 @@
 use Rattle.std.proofs.Common.{◌≡◌, drop}
-use Rattle.rules_table.specs.Walk.{used}
+use Rattle.safety_rules.specs.from_rules_table.Walk.{used}
 use Rattle.rules_steps.proofs.UsingLaws.{after_these}
 use Rattle.rules_steps.proofs.using.used.Given as goal
 

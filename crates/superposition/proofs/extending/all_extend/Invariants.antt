@@ -1,5 +1,5 @@
 use Rattle.std.proofs.Common.{◌≡◌, drop}
-use Rattle.rules_table.specs.Layers.{all_two, extends}
+use Rattle.safety_rules.specs.from_rules_table.Layers.{all_two, extends}
 use Rattle.superposition.proofs.extending.all_extend.Given as goal
 
 abbrev pub invariant-loop-place : goal.invariant-loop-place

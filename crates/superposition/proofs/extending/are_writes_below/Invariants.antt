@@ -1,7 +1,7 @@
 use Rattle.std.proofs.Common.{◌≤◌, length}
 use Rattle.core_terms.specs.Conditions.{is_shown}
 use Rattle.core_terms.specs.declared.programs.CWrite.{CWrite}
-use Rattle.rules_table.specs.Layers.{same_write}
+use Rattle.safety_rules.specs.from_rules_table.Layers.{same_write}
 use Rattle.superposition.proofs.PlaceLaws.{Matched}
 use Rattle.superposition.proofs.extending.are_writes_below.Given as goal
 

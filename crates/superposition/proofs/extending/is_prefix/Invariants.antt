@@ -1,5 +1,5 @@
 use Rattle.std.proofs.Common.{◌≡◌, drop}
-use Rattle.rules_table.specs.Layers.{is_prefix}
+use Rattle.safety_rules.specs.from_rules_table.Layers.{is_prefix}
 use Rattle.superposition.proofs.extending.is_prefix.Given as goal
 
 abbrev pub invariant-loop-place : goal.invariant-loop-place

@@ -1,5 +1,5 @@
 use Rattle.std.proofs.Common.{◌≡◌, drop}
-use Rattle.rules_table.specs.Layers.{label_over}
+use Rattle.safety_rules.specs.from_rules_table.Layers.{label_over}
 use Rattle.superposition.proofs.helping.label_over.Given as goal
 
 abbrev pub invariant-loop-place : goal.invariant-loop-place

@@ -1,6 +1,6 @@
 use Rattle.std.proofs.Common.{◌≡◌, ℕ, drop, List}
 use Rattle.std.specs.List.{list_all}
-use Rattle.rules_table.specs.Layers.{is_beside}
+use Rattle.safety_rules.specs.from_rules_table.Layers.{is_beside}
 use Rattle.superposition.specs.Labels.{TellsTaken}
 use Rattle.superposition.proofs.layers.all_beside.Given as goal
 

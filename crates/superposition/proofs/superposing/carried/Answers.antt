@@ -3,8 +3,8 @@ use Rattle.core_terms.specs.declared.documents.Helper.{Helper}
 use Rattle.core_terms.specs.declared.programs.CProgram.{CProgram}
 use Rattle.core_terms.specs.declared.trees.CForm.{CForm}
 use Rattle.fair_rounds.specs.declared.records.Record.{Record}
-use Rattle.rules_table.specs.Layers.{helper_over, record_over, starts_below}
-use Rattle.rules_table.specs.Table.{Site, record_of, concluded}
+use Rattle.safety_rules.specs.from_rules_table.Layers.{helper_over, record_over, starts_below}
+use Rattle.safety_rules.specs.from_rules_table.Table.{Site, record_of, concluded}
 use Rattle.safety_rules.specs.Answers.{site_of, RuleAnswers}
 use Rattle.safety_rules.proofs.UsableLaws.{usable_closed}
 use Rattle.safety_rules.proofs.AnswerLaws.{refused_goals, rule_given}

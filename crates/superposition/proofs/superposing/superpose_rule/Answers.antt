@@ -1,6 +1,6 @@
 use Rattle.std.proofs.Common.{sym, ◌∙◌}
-use Rattle.rules_table.specs.Layers.{superpose_of}
-use Rattle.rules_table.proofs.LayerSound.{superpose_sound}
+use Rattle.safety_rules.specs.from_rules_table.Layers.{superpose_of}
+use Rattle.safety_rules.proofs.lemmas_from_rules_table.LayerSound.{superpose_sound}
 use Rattle.safety_rules.specs.Answers.{site_of}
 use Rattle.safety_rules.proofs.SoundLaws.{site_good, answer_stands}
 use Rattle.superposition.proofs.RowLaws.{own_record, other_kind, other_layer, other_names, as_carried}

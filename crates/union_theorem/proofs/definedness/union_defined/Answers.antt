@@ -2,11 +2,11 @@ use Rattle.std.proofs.Common.{◌&&◌, Bool, [], sym, ◌∙◌, arith}
 use Rattle.case_tables.specs.declared.code_table.Code.{Code}
 use Rattle.core_terms.specs.Values.{form_value}
 use Rattle.fair_rounds.specs.declared.records.Record.{Record}
-use Rattle.rules_table.specs.Table.{Site, is_part_pair, claims_defined, union_defined_of}
-use Rattle.rules_table.proofs.UnionSound.{union_defined_sound}
+use Rattle.safety_rules.specs.from_rules_table.Table.{Site, is_part_pair, claims_defined, union_defined_of}
+use Rattle.safety_rules.proofs.lemmas_from_rules_table.UnionSound.{union_defined_sound}
 use Rattle.safety_rules.specs.Answers.{site_of}
 use Rattle.safety_rules.proofs.AnswerLaws.{needs_met, needs_not, refused, given_by}
-use Rattle.wp_substitution.proofs.AfterLaws.{length_of_state}
+use Rattle.safety_rules.proofs.lemmas_from_wp_substitution.AfterLaws.{length_of_state}
 use Rattle.safety_rules.proofs.StateLaws.{light_at}
 use Rattle.safety_rules.proofs.SoundLaws.{site_good, answer_stands}
 use Rattle.union_theorem.proofs.UnionRows.{union_defined-is, united_defined}

@@ -1,8 +1,8 @@
 use Rattle.std.proofs.Common.{◌≡◌, ◌++◌, ◌∷◌, [], List, map, Ok, Err, refl, ap, sym, subst}
 use Rattle.core_terms.specs.declared.trees.CForm.{CForm}
 use Rattle.fair_rounds.specs.declared.records.Record.{Record}
-use Rattle.rules_table.specs.Forms.{imply}
-use Rattle.rules_table.specs.Table.{Site, shown_forms}
+use Rattle.safety_rules.specs.from_rules_table.Forms.{imply}
+use Rattle.safety_rules.specs.from_rules_table.Table.{Site, shown_forms}
 use Rattle.safety_rules.specs.Answers.{site_of}
 use Rattle.safety_rules.specs.Goals.{Added}
 use Rattle.safety_rules.proofs.AnswerLaws.{first_part_fails, second_part_added}

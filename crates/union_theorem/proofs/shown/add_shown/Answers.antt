@@ -6,7 +6,7 @@ use Rattle.core_terms.specs.declared.trees.Range.{Range}
 use Rattle.core_terms.specs.declared.trees.CForm.{CForm}
 use Rattle.core_terms.specs.declared.programs.CSlot.{CSlot}
 use Rattle.core_terms.specs.Conditions.{FormFits}
-use Rattle.rules_table.specs.Forms.{imply}
+use Rattle.safety_rules.specs.from_rules_table.Forms.{imply}
 use Rattle.safety_rules.specs.Usable.{IsUsable, NamesExist}
 use Rattle.safety_rules.specs.Goals.{Added}
 use Rattle.safety_rules.proofs.UsableLaws.{usable_closed}

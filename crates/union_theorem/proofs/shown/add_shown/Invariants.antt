@@ -1,5 +1,5 @@
 use Rattle.std.proofs.Common.{take}
-use Rattle.rules_table.specs.Forms.{imply}
+use Rattle.safety_rules.specs.from_rules_table.Forms.{imply}
 use Rattle.safety_rules.proofs.AnswerLaws.{AddedFor}
 use Rattle.union_theorem.proofs.shown.add_shown.Given as goal
 

@@ -1,6 +1,6 @@
 use Rattle.std.proofs.Common.{◌++◌, ap, ◌∙◌}
 use Rattle.fair_rounds.specs.declared.records.Record.{Record}
-use Rattle.rules_table.specs.Table.{Site, record_of, concluded, shown_forms}
+use Rattle.safety_rules.specs.from_rules_table.Table.{Site, record_of, concluded, shown_forms}
 use Rattle.safety_rules.specs.Answers.{site_of, RuleAnswers}
 use Rattle.safety_rules.proofs.AnswerLaws.{refused_goals, rule_given}
 use Rattle.safety_rules.proofs.ErrorLaws.{handed_on}

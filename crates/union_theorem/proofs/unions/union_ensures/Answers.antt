@@ -2,8 +2,8 @@ use Rattle.std.proofs.Common.{◌&&◌, ◌++◌, subst, ◌∙◌}
 use Rattle.case_tables.specs.declared.kind_table.Kind.{Kind}
 use Rattle.core_terms.specs.Trees.{same_form}
 use Rattle.fair_rounds.specs.declared.records.Record.{Record}
-use Rattle.rules_table.specs.Table.{Site, record_of, concluded, shown_forms, union_ensures_of}
-use Rattle.rules_table.proofs.UnionSound.{union_ensures_sound}
+use Rattle.safety_rules.specs.from_rules_table.Table.{Site, record_of, concluded, shown_forms, union_ensures_of}
+use Rattle.safety_rules.proofs.lemmas_from_rules_table.UnionSound.{union_ensures_sound}
 use Rattle.safety_rules.specs.Answers.{site_of, RuleAnswers}
 use Rattle.safety_rules.proofs.AnswerLaws.{refused, given_by}
 use Rattle.safety_rules.proofs.SoundLaws.{site_good, answer_stands}

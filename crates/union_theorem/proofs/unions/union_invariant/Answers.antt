@@ -2,8 +2,8 @@ use Rattle.std.proofs.Common.{◌&&◌, ◌∙◌}
 use Rattle.core_terms.specs.Trees.{same_form}
 use Rattle.core_terms.specs.declared.trees.CForm.TheVariants.{Bottom}
 use Rattle.fair_rounds.specs.declared.records.Record.{Record}
-use Rattle.rules_table.specs.Table.{Site, ending, union_invariant_of}
-use Rattle.rules_table.proofs.UnionSound.{union_invariant_sound}
+use Rattle.safety_rules.specs.from_rules_table.Table.{Site, ending, union_invariant_of}
+use Rattle.safety_rules.proofs.lemmas_from_rules_table.UnionSound.{union_invariant_sound}
 use Rattle.safety_rules.specs.Answers.{site_of}
 use Rattle.safety_rules.proofs.AnswerLaws.{refused, given_by}
 use Rattle.safety_rules.proofs.SoundLaws.{site_good, answer_stands}

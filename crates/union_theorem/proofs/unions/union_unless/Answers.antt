@@ -1,8 +1,8 @@
 use Rattle.std.proofs.Common.{◌&&◌, ◌∙◌}
 use Rattle.core_terms.specs.Trees.{same_form}
 use Rattle.fair_rounds.specs.declared.records.Record.{Record}
-use Rattle.rules_table.specs.Table.{Site, is_unless, union_unless_of}
-use Rattle.rules_table.proofs.UnionSound.{union_unless_sound}
+use Rattle.safety_rules.specs.from_rules_table.Table.{Site, is_unless, union_unless_of}
+use Rattle.safety_rules.proofs.lemmas_from_rules_table.UnionSound.{union_unless_sound}
 use Rattle.safety_rules.specs.Answers.{site_of}
 use Rattle.safety_rules.proofs.AnswerLaws.{refused, given_by}
 use Rattle.safety_rules.proofs.SoundLaws.{site_good, answer_stands}

@@ -1,6 +1,6 @@
 use Rattle.std.proofs.Common.{◌∙◌, ◌++◌, ◌∷◌, ◌<◌, List, ℕ, suc, length, take, drop, ap, subst, sym}
 use Rattle.unity_cli.specs.Answer.Check.{Checked}
-use Rattle.upgraded_texts.proofs.Documents.{number_is_inside}
+use Rattle.plain_quotients.proofs.lemmas_from_upgraded_texts.Documents.{number_is_inside}
 use Rattle.unity_cli.proofs.Upgraded.{checked_upgraded, upgraded_of}
 use Rattle.unity_cli.proofs.upgrade.upgrade_document.Goals as goal
 

@@ -2,7 +2,7 @@ use Rattle.std.proofs.Common.{◌≡◌, ◌+◌, ◌<◌, arith, length, sym, �
 use Rattle.std.proofs.lemmas.Result.{err_from_is_err_and}
 use Rattle.grammar_theory.specs.Reader.{count}
 use Rattle.unity_syntax.specs.View.{view_certificate}
-use Rattle.parser_expressions.specs.Gives.{remaining}
+use Rattle.parser_programs.specs.from_parser_expressions.Gives.{remaining}
 use Rattle.unity_parser.proofs.CertificateLoops.{certificates_go_on, certificates_end, certificates_fail}
 use Rattle.unity_parser.proofs.CertificateLoops.{certificate_shorter, some_left, count_left}
 use Rattle.unity_parser.proofs.certificate.all_certificates.Goals as goal

@@ -1,6 +1,6 @@
 use Rattle.std.proofs.Common.{◌+◌, ◌≤◌}
 use Rattle.grammar_theory.specs.Reader.{count}
-use Rattle.parser_expressions.specs.Gives.{remaining}
+use Rattle.parser_programs.specs.from_parser_expressions.Gives.{remaining}
 use Rattle.unity_parser.proofs.CertificateLoops.{Certificates}
 use Rattle.unity_parser.proofs.certificate.all_certificates.Given as goal
 

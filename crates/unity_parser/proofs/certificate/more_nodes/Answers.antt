@@ -3,7 +3,7 @@ use Rattle.std.proofs.lemmas.Result.{err_from_is_err_and}
 use Rattle.grammar_theory.specs.Reader.{count}
 use Rattle.unity_syntax.specs.Grammar.{subtrees}
 use Rattle.unity_syntax.specs.View.{view_node}
-use Rattle.parser_expressions.specs.Gives.{remaining}
+use Rattle.parser_programs.specs.from_parser_expressions.Gives.{remaining}
 use Rattle.unity_parser.proofs.CertificateLoops.{nodes_go_on, nodes_end, nodes_fail, node_shorter, subtrees_few}
 use Rattle.unity_parser.proofs.CertificateLoops.{count_left}
 use Rattle.unity_parser.proofs.certificate.more_nodes.Goals as goal

@@ -1,8 +1,8 @@
 use Rattle.grammar_theory.specs.Reader.{count}
 use Rattle.unity_syntax.specs.Grammar.{multiple_}
 use Rattle.unity_syntax.specs.View.{view_pair}
-use Rattle.parser_expressions.specs.Gives.{remaining}
-use Rattle.parser_expressions.proofs.Repetition.{Items}
+use Rattle.parser_programs.specs.from_parser_expressions.Gives.{remaining}
+use Rattle.parser_programs.proofs.lemmas_from_parser_expressions.Repetition.{Items}
 use Rattle.unity_parser.proofs.certificate.multiples.Given as goal
 
 abbrev pub invariant-items : goal.invariant-items

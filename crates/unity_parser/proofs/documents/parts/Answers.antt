@@ -1,6 +1,6 @@
 use Rattle.std.proofs.Common.{sym, ◌∙◌}
 use Rattle.std.proofs.lemmas.Result.{err_from_is_err_and}
-use Rattle.parser_expressions.proofs.Repetition.{goes_on, ends, fails, shorter}
+use Rattle.parser_programs.proofs.lemmas_from_parser_expressions.Repetition.{goes_on, ends, fails, shorter}
 use Rattle.unity_parser.proofs.ItemForms.{is_part}
 use Rattle.unity_parser.proofs.documents.parts.Goals as goal
 

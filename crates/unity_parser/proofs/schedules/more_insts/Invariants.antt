@@ -3,8 +3,8 @@ use Rattle.case_tables.specs.declared.symbol_table.Symbol.{Symbol}
 use Rattle.unity_syntax.specs.Classes.{symbol}
 use Rattle.unity_syntax.specs.Grammar.{past, inst_}
 use Rattle.unity_syntax.specs.View.{view_inst}
-use Rattle.parser_expressions.specs.Gives.{remaining}
-use Rattle.parser_expressions.proofs.Repetition.{Items}
+use Rattle.parser_programs.specs.from_parser_expressions.Gives.{remaining}
+use Rattle.parser_programs.proofs.lemmas_from_parser_expressions.Repetition.{Items}
 use Rattle.unity_parser.proofs.schedules.more_insts.Given as goal
 
 abbrev pub invariant-items : goal.invariant-items

@@ -1,0 +1,1 @@
+pub use Rattle.event_checker.specs as from_event_checker
