@@ -11,6 +11,8 @@ import os
 import re
 import sys
 
+from unity_tool.passed_on import origin
+
 PAGE = "docs/ARCHITECTURE.md"
 # What a file may name beside its own room.
 BELOW = {
@@ -31,22 +33,30 @@ LEAVES = ["Examples", "Wrong bodies"]
 LAWS = ["meaning_laws", "layer_laws", "names_laws"]
 OF_DOCUMENTS = ["meaning_documents", "certificate_reading", "run_correct", "fixed_correct"]
 IMPORT = re.compile(r"\bRattle\.(\w+)\.(\w+)")
-RUST = re.compile(r"^\s*(?:pub )?use (\w+)::")
+RUST = re.compile(r"^\s*(?:pub )?use (\w+)(?:::|(?= as ))")
 
 
 class File:
-    """A file of a crate: its path, its crate and room, its kind (src, specs or proofs), and what it imports."""
+    """A file of a crate: its path, its crate and room, its kind (src, specs or proofs), and what it imports.
+
+    Of a name that a crate passes on it imports from that crate and from the one that has it."""
 
     def __init__(self, top, path, crate, room, kind):
         self.path, self.crate, self.room, self.kind = path, crate, room, kind
         self.imports = []
         with open(os.path.join(top, path), encoding="utf-8") as lines:
             for number, line in enumerate(lines, 1):
-                for found in IMPORT.finditer(line):
-                    self.imports.append((found.group(1), found.group(2), number, found.start() + 1))
-                found = RUST.match(line)
-                if found:
-                    self.imports.append((found.group(1), "src", number, found.start(1) + 1))
+                self.take(line, number)
+                if origin(line) != line:
+                    self.take(origin(line), number)
+
+    def take(self, line, number):
+        """Adds what a line imports."""
+        for found in IMPORT.finditer(line):
+            self.imports.append((found.group(1), found.group(2), number, found.start() + 1))
+        found = RUST.match(line)
+        if found:
+            self.imports.append((found.group(1), "src", number, found.start(1) + 1))
 
 
 class Rule:

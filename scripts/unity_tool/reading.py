@@ -3,6 +3,8 @@ import os
 import re
 import sys
 
+from unity_tool.passed_on import origin
+
 # Names of antt may hold nearly anything but these.
 BREAK = re.compile(r"[\s(){},;|]+")
 
@@ -38,6 +40,7 @@ class File:
     def take_import(self, line):
         found = re.match(r"(?:ghost\s+)?use\s+([^\s{]+?)(?:\.\{(.*)\})?(?:\s+as\s+(\S+?))?;?\s*$", line)
         path, names, alias = found.groups()
+        path = origin(path)
         if names is None:
             self.modules[alias or path.split(".")[-1]] = path
             return
@@ -72,7 +75,7 @@ class AnttFile(File):
             self.take_import(line)
         elif line.startswith("--") or words[0] in ("infixr", "infixl", "infix"):
             self.comments.append((number, line))
-        elif words[0] not in ("mod", "module") and words[:2] != ["pub", "mod"]:
+        elif words[0] not in ("mod", "module") and words[:2] not in (["pub", "mod"], ["pub", "use"]):
             self.take_head(number, line, words)
 
     def take_head(self, number, line, words):
@@ -117,7 +120,7 @@ class RattleFile(File):
                 self.extend(self.items[found.group(1)], number)
 
     def take_use(self, text):
-        text = " ".join(text.split())
+        text = origin(" ".join(text.split()))
         found = re.match(r"(.*?)::\{(.*)\}$", text)
         paths = [found.group(1) + "::" + name.strip() for name in found.group(2).split(",")] if found else [text]
         for path in paths:
