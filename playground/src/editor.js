@@ -156,9 +156,10 @@ function takeBefore() {
   remember();
 }
 
-// The names of the programs, for `run` and `fixed`: they stand before the certificates, which are long.
+// The names of the programs, for `run` and `fixed`, wherever they stand: comments before them may be long. Certificates
+// are folded where they are long, and then are no part of the text.
 function programs() {
-  const source = text.value.slice(0, MOST_COLOURED).replace(/#.*/g, '');
+  const source = text.value.replace(/#.*/g, '');
   const names = [...source.matchAll(/(?:^|\s)program\s+(\w+)/g)].map(it => it[1]);
   const was = get('program').value;
   get('program').replaceChildren(...names.map(it => new Option(it)));
