@@ -6,7 +6,6 @@ import os
 import sys
 from typing import NamedTuple
 
-from unity_tool.repository import version
 from unity_tool.wrong_use import Failure, WrongUse
 
 WRITE_FAULT = 8
@@ -55,8 +54,8 @@ class Parser(argparse.ArgumentParser):
 def overview():
     wide = max(map(len, COMMANDS))
     rows = ["  %-*s  %s" % (wide, name, command.does) for name, command in COMMANDS.items()]
-    return ("usage: scripts/unity-tool COMMAND WORD..\n       scripts/unity-tool --version\n\n%s\n\n"
-            "`scripts/unity-tool COMMAND --help` says more.\n" % "\n".join(rows))
+    return "usage: scripts/unity-tool COMMAND WORD..\n\n%s\n\n`scripts/unity-tool COMMAND --help` says more.\n" % (
+        "\n".join(rows))
 
 
 def carry_out(name, words):
@@ -79,13 +78,9 @@ def carry_out(name, words):
 def main(words):
     """Carries out the command that the words name. Where what it says can't be written the status is that of `unity`
     for a write that failed."""
-    if words == ["--version"]:
-        print("unity", version())
-        return 0
-    if not words or words[0] not in COMMANDS:
-        is_asked = words[:1] in (["-h"], ["--help"])
-        (sys.stdout if is_asked else sys.stderr).write(overview())
-        return 0 if is_asked else 64
+    if not words or words[0] in ("-h", "--help") or words[0] not in COMMANDS:
+        (sys.stdout if words[:1] in (["-h"], ["--help"]) else sys.stderr).write(overview())
+        return 0 if words[:1] in (["-h"], ["--help"]) else 64
     try:
         status = carry_out(words[0], words[1:])
         sys.stdout.flush()

@@ -54,7 +54,6 @@ def main(chosen):
         put(file, os.path.join(share, "editors"))
     for page in PAGES:
         put(os.path.join(TOP, "docs", page + ".md"), os.path.join(share, "docs"))
-    put(os.path.join(TOP, "VERSION"), share)
     put(os.path.join(SCRIPTS, "unity-tool"), os.path.join(share, "scripts"), 0o755)
     for file in sorted(glob.glob(os.path.join(SCRIPTS, "unity_tool", "*.py"))):
         put(file, os.path.join(share, "scripts", "unity_tool"))
