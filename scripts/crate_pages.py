@@ -3,7 +3,7 @@ import glob
 import os
 import re
 
-from pages import Place, cells
+from pages import Place, cells, lines_of
 
 MOST_LINES = 50
 PAGE = re.compile(r"(?:^|/)crates/(\w+)/README\.md$")
@@ -57,26 +57,21 @@ class Crate:
             elif impl:
                 owner = impl.group(1)
             elif item:
-                current = self.take(item, line.startswith(" ") and owner, exported, is_open)
+                current = self.take(item, owner if line.startswith(" ") else "", exported, is_open)
             elif clause and current:
                 self.clauses[current].add(clause.group(1) or "")
 
     def take(self, item, owner, exported, is_open):
         """Takes in an item, where it is public, and returns its name."""
         said, kind, name = item.groups()
-        known = exported if not is_open else exported | {name}
-        of = set(re.findall(r"\w+", owner)) if owner else {name}
-        if not (said or " for " in (owner or "") or "trait" in (owner or "")) or not of & known and not is_open:
+        is_said = said or " for " in owner or "trait " in owner
+        is_given = is_open or exported & (set(re.findall(r"\w+", owner)) or {name})
+        if not is_said or not is_given:
             return None
         self.clauses.setdefault(name, set())
         if kind == "fn" and not owner:
             self.calls.add(name)
         return name
-
-
-def lines_of(path):
-    with open(path, encoding="utf-8") as source:
-        return source.read().split("\n")
 
 
 def row_faults(crate, line, number):
