@@ -4,7 +4,7 @@ import os
 import re
 
 PATTERNS = ["README.md", "CONTRIBUTING.md", "CHANGELOG.md", "docs/*.md", "examples/README.md", "examples/*/README.md",
-            "editors/README.md"]
+            "editors/README.md", "crates/*/README.md"]
 WRITTEN, UNTIL_HERE = "<!-- written by ", "<!-- until here -->"
 FENCE = re.compile(r"\s*(```|~~~)")
 ITEM = re.compile(r"\s*(?:[-*+]|\d+\.)\s+")

@@ -4,13 +4,19 @@
 No sentence has more than 35 words. A block of code has none; an item of a list, a heading and a cell of a table hold
 sentences of their own; a span of code is one word, and of a link its text counts and not its address. Tables that a
 script writes between its marks are read on the pages that they come from. A relative link leads to a file or folder
-that is there, and behind a `#` to a heading of that page. Each fault is a line `file:line:column: message`; the last
-line is `N passed, M failed`, with one test for each sentence and each link. The status is 1 where one failed. Without a PAGE all pages are read: README.md, CONTRIBUTING.md, CHANGELOG.md, docs/,
-and the pages of examples/ and editors/."""
+that is there, and behind a `#` to a heading of that page.
+
+A crate's page has at most a screen and a usage. Its table of calls names public items of the crate alone, and all of
+its calls unless a row ends with `..`; a name before a colon there is a clause of one of these calls (crate_pages.py).
+
+Each fault is a line `file:line:column: message`; the last line is `N passed, M failed`, with one test for each
+sentence, link, row and usage. The status is 1 where one failed. Without a PAGE all pages are read: README.md,
+CONTRIBUTING.md, CHANGELOG.md, docs/, and the pages of examples/, editors/ and crates/."""
 import argparse
 import os
 import sys
 
+import crate_pages
 import pages
 
 MOST_WORDS = 35
@@ -51,7 +57,7 @@ def main():
     passed = failed = 0
     for path in words.pages or [os.path.relpath(os.path.join(top, page)) for page in pages.all_pages(top)]:
         lines = pages.lines_of(path)
-        for fault in list(sentence_faults(lines)) + list(link_faults(path, lines)):
+        for fault in [*sentence_faults(lines), *link_faults(path, lines), *crate_pages.page_faults(path, lines)]:
             if fault:
                 place, message = fault
                 print("%s:%d:%d: %s" % (path, place.line, place.column, message))

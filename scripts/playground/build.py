@@ -1,7 +1,8 @@
 """Puts the page together, as one file: build.py MODULE OUT.html COMMIT SOURCES PROGRAM
 
 MODULE is a module, or a page: then the module that stands in it is taken. COMMIT, and the sums SOURCES of all sources
-and PROGRAM of those of the module, are what the foot of the page says it was made from.
+and PROGRAM of those of the module, are what the foot of the page says it was made from. The version there is that of
+the file VERSION.
 """
 import base64
 import json
@@ -125,6 +126,7 @@ def script(text):
 
 def main(module, out, commit, sources, program):
     parts = {
+        "version": text_of("VERSION").strip(),
         "playground.css": text_of("playground/src/playground.css").rstrip("\n"),
         "commit": commit,
         "sources": sources,

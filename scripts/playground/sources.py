@@ -19,7 +19,7 @@ MODULE = ["scripts/playground/module.sh", "scripts/playground/heap.c", "scripts/
 OTHERS = ["playground/src/*", "scripts/playground/build.py", "scripts/playground/lessons.py",
           "scripts/playground/exercises_read.py", "editors/unity.tmLanguage.json", "examples/README.md",
           "examples/*.unity", "examples/mistakes/*.unity", "examples/causes/*.unity", "examples/exercises/*",
-          "docs/TUTORIAL.md", "docs/WRITING.md"]
+          "docs/TUTORIAL.md", "docs/WRITING.md", "VERSION"]
 
 
 def names(program=False):

@@ -8,6 +8,12 @@ UNITY = os.path.normpath(os.path.join(TOP, "..", "..", "bin", "unity")) if IS_IN
     os.path.join(TOP, "crates", "unity", "out", "unity")
 
 
+def version():
+    """The number of this version, which stands in one file."""
+    with open(os.path.join(TOP, "VERSION"), encoding="utf-8") as file:
+        return file.read().strip()
+
+
 def is_built():
     """Whether the built program is there."""
     return os.path.isfile(UNITY) and os.access(UNITY, os.X_OK)
