@@ -11,6 +11,7 @@ from unity_tool import paged
 from unity_tool.repository import SCRIPTS, TOP, UNITY
 from unity_tool.trials.asking import ask, read, script
 from unity_tool.trials.cases import Case, faults, other_status, single, unlike
+from unity_tool.trials.documents import documents
 
 # what a script would write is there: the script, and what it writes
 WRITTEN = [("editors.sh", "the files in editors/"), ("reading.sh", "docs/READING.md"),
@@ -88,6 +89,28 @@ def matchers():
                 None if re.search(pattern, line) else "%s does not match %s" % (pattern, line)
 
 
+def matched():
+    """The pattern of editors/matcher.json takes the place and the message of a refusal, and leaves out what passes."""
+    pattern = json.loads(read("editors", "matcher.json"))["problemMatcher"][0]["pattern"][0]
+    lines = {"a.unity:4:27: bad 3 Unexpected byte 61": ("a.unity", "4", "27", "bad 3 Unexpected byte 61"),
+             "b/c.unity:13: refuted Pick.safe": ("b/c.unity", "13", None, "refuted Pick.safe"),
+             "d.unity: accepted 2 steps 3 obligations": None}
+    for line, wanted in lines.items():
+        found = re.search(pattern["regexp"], line)
+        taken = found and tuple(found.group(pattern[name]) for name in ("file", "line", "column", "message"))
+        yield "the pattern of editors/matcher.json on " + line, unlike(wanted, taken, "match")
+
+
+def node_answers():
+    """By node alone the lines are those of scripts/check.sh, where the page is of the present sources."""
+    if not paged.is_there() or not paged.is_present():
+        return None
+    names = [document.path for document in documents("examples/mistakes")]
+    came, wanted = ask(["node", "scripts/check.mjs", *names]), script("check.sh", "--short", *names)
+    lines = came.text[:came.text.rindex(b"\n", 0, -1) + 1]
+    return faults(other_status(wanted.status, came), unlike(wanted.text, lines))
+
+
 def page_answers(room):
     """The page's module answers as the built program over all of examples/, where node is there and the page is of the
     present sources: else it need not."""
@@ -127,5 +150,7 @@ def cases():
     yield Case("the installed commands", installed, 5)
     yield Case("an old proved document", none_left, 1)
     yield Case("the patterns of editors/tasks.json", lambda room: matchers(), 1)
+    yield Case("the pattern of editors/matcher.json", lambda room: matched(), 1)
+    yield single("the lines of scripts/check.mjs", node_answers, 10)
     yield Case("the answers of the page's module", page_answers, 40)
     yield Case("the scripts themselves", lambda room: checkers(), 5)
