@@ -1,5 +1,5 @@
-"""What the scripts write and print: files that are compared with what they would write, the installed commands, and
-checkers of the scripts themselves."""
+"""What the scripts write and print: files that are compared with what they would write, and checkers of the scripts
+themselves."""
 import glob
 import json
 import os
@@ -23,17 +23,6 @@ COUNTED = [(("python3", "-B", "scripts/sentences.py"), "the sentences and links 
            (("bash", "scripts/gate_cost.sh", "--self-test"), "the report on what the gate costs", 1)]
 FUZZ_SECONDS, FUZZ_SEED = "20", "1"
 
-# an installed command, or a link to one, and the script that does the same here
-INSTALLED = [
-    ("checks examples/count.unity", "bash scripts/check.sh examples/count.unity"),
-    ("unity check < examples/count.unity", "crates/unity/out/unity check < examples/count.unity"),
-    ("unity-why examples/pick.unity", "bash scripts/why.sh examples/pick.unity"),
-    ("unity-watch examples/race.unity", "bash scripts/watch.sh examples/race.unity"),
-    ("unity-try examples/lost_update_mended.unity Tally 1 1",
-     "bash scripts/try.sh examples/lost_update_mended.unity Tally 1 1"),
-    ("unity-check-all examples/causes 2", "bash scripts/check_all.sh examples/causes"),
-]
-
 
 def is_written(name):
     return other_status(0, script(name, "--check"))
@@ -49,19 +38,6 @@ def alike():
     """Of documents that were changed at random two ways of one question say the same."""
     came = script("fuzz.sh", FUZZ_SECONDS, FUZZ_SEED)
     return faults(other_status(0, came), came.text.decode("latin-1"))
-
-
-def installed(room):
-    """From a folder that scripts/install.sh wrote the commands do what the scripts do here."""
-    prefix = os.path.join(room, "here")
-    yield "scripts/install.sh", other_status(0, script("install.sh", prefix))
-    link = os.path.join(room, "checks")
-    os.symlink(os.path.join(prefix, "bin", "unity-check"), link)
-    path = os.pathsep.join([os.path.join(prefix, "bin"), room, os.environ["PATH"]])
-    for command, here in INSTALLED:
-        came = ask(["bash", "-c", command + " 2>&1"], env={**os.environ, "PATH": path})
-        wanted = ask(["bash", "-c", here + " 2>&1"])
-        yield "the installed " + command, faults(other_status(wanted.status, came), unlike(wanted.text, came.text))
 
 
 def none_left(room):
@@ -147,7 +123,6 @@ def cases():
         yield single(what, lambda name=name: is_written(name), 3)
     for words, what, seconds in COUNTED:
         yield single(what, lambda words=words: counted(words), seconds)
-    yield Case("the installed commands", installed, 5)
     yield Case("an old proved document", none_left, 1)
     yield Case("the patterns of editors/tasks.json", lambda room: matchers(), 1)
     yield Case("the pattern of editors/matcher.json", lambda room: matched(), 1)
