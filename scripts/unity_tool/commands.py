@@ -10,7 +10,7 @@ from typing import NamedTuple
 from unity_tool.repository import IS_INSTALLED
 from unity_tool.wrong_use import Failure, WrongUse
 
-WRITE_FAULT = 8
+WRITE_FAULT, INTERRUPTED = 8, 130
 
 
 class Command(NamedTuple):
@@ -32,7 +32,8 @@ COMMANDS = {
     "trace": Command("trace", "bash scripts/trace_svg.sh < TRACE > PICTURE", "draws a trace"),
     "bounds": Command("bounds", "bash scripts/bounds.sh FILE PROGRAM [P Q BOUND INSTANCE..]",
                       "tries the leads-to of a proof on all executions of 8 steps"),
-    "all": Command("check_all", "bash scripts/check_all.sh FOLDER [JOBS]", "checks all documents below a folder"),
+    "all": Command("check_all", "bash scripts/check_all.sh FOLDER [JOBS] [--log LOG] [--hosts HOSTS]",
+                   "checks all documents below a folder"),
     "unity": Command("pass_on", "bash scripts/unity.sh WORD.. < FILE", "runs `unity` on standard input"),
     "place": Command("place", "scripts/unity-tool place NAME FILE < ANSWER", "shows the place that an answer names"),
     "install": Command("install", "bash scripts/install.sh [--remove] [PREFIX]", "puts all of this under one folder"),
@@ -106,6 +107,8 @@ def main(words):
         status = carry_out(words[0], words[1:])
         sys.stdout.flush()
         return status
+    except KeyboardInterrupt:
+        return INTERRUPTED
     except OSError as fault:
         if fault.errno not in (errno.EPIPE, errno.ENOSPC):
             raise

@@ -2,7 +2,8 @@
 
 A subject of your own is a line here: its function takes nothing, and yields a `Case` for each test (cases.py).
 """
-from unity_tool.trials import asked_rows, causes, generated, installing, mistakes, refusing, scripts, sessions, suffixes
+from unity_tool.trials import asked_rows, causes, generated, installing, machines, mistakes, refusing, scripts, \
+    sessions, suffixes
 
 SUBJECTS = [
     ("documents", suffixes.beside_documents),
@@ -15,4 +16,5 @@ SUBJECTS = [
     ("refusing", refusing.cases),
     ("scripts", scripts.cases),
     ("installing", installing.cases),
+    ("machines", machines.cases),
 ]
