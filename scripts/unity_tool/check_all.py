@@ -101,8 +101,10 @@ def judged(chosen, texts):
 
 
 def main(chosen):
-    if not os.path.isdir(chosen.folder) or (chosen.jobs is not None and chosen.jobs < 1):
+    if chosen.jobs is not None and chosen.jobs < 1:
         raise WrongUse
+    if not os.path.isdir(chosen.folder):
+        raise Failure(64, "%s: there is no such folder" % chosen.folder)
     if chosen.hosts:
         need_readable(chosen.hosts)
     names = documents_below(chosen.folder)
