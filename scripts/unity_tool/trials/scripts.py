@@ -107,13 +107,14 @@ def python_with(module):
 
 def checkers():
     """What shellcheck and pyflakes find in the scripts, where they are there."""
-    shells = sorted(glob.glob(os.path.join(SCRIPTS, "**", "*.sh"), recursive=True))
-    pythons = sorted(glob.glob(os.path.join(SCRIPTS, "**", "*.py"), recursive=True))
+    shells, pythons = (sorted(name for folder in (SCRIPTS, os.path.join(TOP, "bench")) for name in
+                              glob.glob(os.path.join(folder, "**", "*" + ending), recursive=True))
+                       for ending in (".sh", ".py"))
     if shutil.which("shellcheck"):
-        yield "shellcheck of scripts/", faults(ask(["shellcheck", "-x", *shells]).text.decode())
+        yield "shellcheck of scripts/ and bench/", faults(ask(["shellcheck", "-x", *shells]).text.decode())
     python = python_with("pyflakes")
     if python:
-        yield "pyflakes of scripts/", faults(ask([python, "-m", "pyflakes", *pythons,
+        yield "pyflakes of scripts/ and bench/", faults(ask([python, "-m", "pyflakes", *pythons,
                                                   os.path.join(SCRIPTS, "unity-tool")]).text.decode())
 
 
