@@ -98,8 +98,8 @@ def carry_out(name, words):
 
 
 def main(words):
-    """Carries out the command that the words name. Where what it says can't be written the status is that of `unity`
-    for a write that failed."""
+    """Carries out the command that the words name. Where what it says, or a file, can't be written the status is that
+    of `unity` for a write that failed."""
     if not words or words[0] in ("-h", "--help") or words[0] not in present():
         (sys.stdout if words[:1] in (["-h"], ["--help"]) else sys.stderr).write(overview())
         return 0 if words[:1] in (["-h"], ["--help"]) else 64
@@ -110,6 +110,9 @@ def main(words):
     except KeyboardInterrupt:
         return INTERRUPTED
     except OSError as fault:
+        if fault.filename is not None:
+            sys.stderr.write("%s: %s\n" % (fault.filename, fault.strerror))
+            return WRITE_FAULT
         if fault.errno not in (errno.EPIPE, errno.ENOSPC):
             raise
         os.dup2(os.open(os.devnull, os.O_WRONLY), sys.stdout.fileno())
