@@ -15,9 +15,9 @@ trap 'rm -rf "$work"' EXIT
 
 # row NAME INPUT COMMAND..: the least time of three runs of a command on this input, and its peak memory.
 row() {
-    local name=$1 input=$2 least= used
+    local name=$1 input=$2 least='' used
     shift 2
-    for run in 1 2 3; do
+    for _ in 1 2 3; do
         env time -f "%e %M" -o "$work/used" "$@" < "$input" > "$work/answer" || true
         used=$(tail -n 1 "$work/used")
         if [ -z "$least" ] || awk -v a="$used" -v b="$least" 'BEGIN { exit !(a + 0 < b + 0) }'; then least=$used; fi

@@ -42,9 +42,9 @@ awk -v count="$invariants" '
 
 # best NAME COMMAND..: the least time of five runs of a command on the document, and its peak memory.
 best() {
-    local name=$1 least= used
+    local name=$1 least='' used
     shift
-    for run in 1 2 3 4 5; do
+    for _ in 1 2 3 4 5; do
         env time -f "%e %M" -o "$work/used" "$@" < "$work/document" > "$work/answer" || true
         used=$(tail -n 1 "$work/used")
         if [ -z "$least" ] || awk -v a="$used" -v b="$least" 'BEGIN { exit !(a + 0 < b + 0) }'; then least=$used; fi

@@ -25,7 +25,7 @@ made() {
 # The least seconds of five runs, and the kilobytes of memory then.
 best() {
     made "$1" >"$work/document"
-    for run in 1 2 3 4 5; do
+    for _ in 1 2 3 4 5; do
         env time -f "%e %M" -o "$work/used" "$program" check <"$work/document" >"$work/answer" || true
         tail -n 1 "$work/used"
     done | sort -n | head -n 1

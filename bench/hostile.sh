@@ -120,7 +120,7 @@ open_writes_to_one() {
 
 # reads within reads
 reads_within_reads() {
-    local first=x body
+    local body
     body=$(awk -v count="$1" 'BEGIN {
         name = "x"
         for (d = 0; count > 0; d++) {

@@ -69,7 +69,7 @@ awk '$1 == "lex" && (best == "" || $2 < best) { best = $2; tokens = $4; size = $
     END { if (best == "") exit 1; printf "lex   %.0f MB/s (%d bytes, %d tokens)\n", size / best, size, tokens }' "$work/times"
 
 best=
-for run in 1 2 3 4 5 6 7; do
+for _ in 1 2 3 4 5 6 7; do
     start=$(date +%s%N)
     LC_ALL=C wc -w <"$text" >/dev/null
     time=$((($(date +%s%N) - start) / 1000))

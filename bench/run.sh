@@ -39,8 +39,8 @@ END
 
 # steps_of WORD PROGRAM STEPS: by this word runs so many steps of a program three times, and prints the best speed.
 steps_of() {
-    local least= used
-    for run in 1 2 3; do
+    local least='' used
+    for _ in 1 2 3; do
         env time -f "%e %M" -o "$work/used" "$program" "$1" "$2" "$3" < "$work/$2" > "$work/answer" || true
         used=$(tail -n 1 "$work/used")
         if [ -z "$least" ] || awk -v a="$used" -v b="$least" 'BEGIN { exit !(a + 0 < b + 0) }'; then least=$used; fi

@@ -73,9 +73,9 @@ chain() {
 
 # best COMMAND..: the least time of three runs of a command on the input here, and its peak memory in MB.
 best() {
-    local least= used
+    local least='' used
     cat > "$work/input"
-    for run in 1 2 3; do
+    for _ in 1 2 3; do
         env time -f "%e %M" -o "$work/used" "$@" < "$work/input" > "$work/answer" || true
         used=$(tail -n 1 "$work/used")
         if [ -z "$least" ] || awk -v a="$used" -v b="$least" 'BEGIN { exit !(a + 0 < b + 0) }'; then least=$used; fi

@@ -80,7 +80,7 @@ schedule() {
 
 # seconds WORD DOCUMENT: the least time of five runs.
 seconds() {
-    for run in 1 2 3 4 5; do
+    for _ in 1 2 3 4 5; do
         env time -f "%e" -o "$work/used" "$program" "$1" < "$2" > "$work/answer" || true
         tail -n 1 "$work/used"
     done | sort -n | head -n 1
@@ -102,7 +102,7 @@ watched() {
     "$program" watch < "$work/full" > "$work/answer" || head -n 1 "$work/answer"
 }
 
-instances=$(for label in ask give enter leave; do echo "$label[0] $label[1]"; done)
+instances=$(for label in ask give enter leave; do echo "${label}[0] ${label}[1]"; done)
 # shellcheck disable=SC2086
 peterson | watched "Peterson, all steps" Peterson 300000 $instances
 # shellcheck disable=SC2086

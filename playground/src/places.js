@@ -7,17 +7,27 @@ function placeOfByte(source, at) {
   return { line: before.split('\n').length, index: before.length, exact: true };
 }
 
-// The line of a step: after the line that begins its proof, the first with its name before `(` or `:`.
+// The line of a place, with the index at which it begins.
+function lineOf(source, at) {
+  return { line: source.slice(0, at).split('\n').length, index: source.lastIndexOf('\n', at - 1) + 1 };
+}
+
+// The line of a step, or of the proof of a program: what stands at the beginning of a step is its name, and no
+// parameter is, nor a word of a comment.
 function placeOfStep(source, program, step) {
-  const head = new RegExp(`(^|[ \\t])proof[ \\t]+${program}([ \\t]|$)`);
-  const named = step && new RegExp(`(^|[ \\t;])${step}[ \\t]*[(:]`);
-  let index = 0, inside = false, number = 1;
-  for (const line of source.split('\n')) {
-    const code = line.replace(/#.*/, '');
-    inside = inside || head.test(code);
-    if (inside && (!step || named.test(code))) return { line: number, index };
-    index += line.length + 1;
-    number++;
+  let inside = false, begins = false, proof = -1;
+  for (const { 0: word, index } of source.matchAll(/#[^\n]*|\w+|[^\s\w]/g)) {
+    if (word[0] === '#') continue;
+    if (word === 'certificates') return null;
+    if (inside && begins && word === step) return lineOf(source, index);
+    if (proof >= 0 && word === program) {
+      if (!step) return lineOf(source, proof);
+      inside = begins = true;
+    } else {
+      inside = inside && !(begins && word === 'end');
+      begins = word === ';';
+    }
+    proof = !inside && word === 'proof' ? index : -1;
   }
   return null;
 }

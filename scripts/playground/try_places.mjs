@@ -27,7 +27,7 @@ function drawViolation(name, answer, trace) {
 }
 
 if (!read(process.argv[2]).includes(code.trim())) throw new Error('the page has another places.js');
-for (const folder of [`${top}/examples`, `${top}/examples/mistakes`]) {
+for (const folder of [`${top}/examples`, `${top}/examples/mistakes`, `${top}/tests/places`]) {
   for (const name of readdirSync(folder)) {
     const file = `${folder}/${name}`, document = file.replace(/\.\w+$/, '.unity');
     if (/\.(run|fixed|replay)$/.test(name)) {

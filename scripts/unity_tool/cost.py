@@ -8,9 +8,9 @@ what the step took so far and as much again. It exits with the status of `unity`
 """
 import re
 
-from unity_tool.files import read_document, write
+from unity_tool.files import read_document, record, write, write_json
 from unity_tool.plan import Plan, closure
-from unity_tool.program import unity
+from unity_tool.program import Answer, unity
 
 
 def units_of(text):
@@ -42,6 +42,12 @@ class Costs:
             print("%8d %12d  %s" % (sum(each), len(each), name))
             first += len(each)
         print("%8d %12d  all %d steps" % (self.total(), first - 1, len(self.units)))
+
+    def records(self):
+        """For a tool that reads it: each step with the units of its obligations, in their order."""
+        return [{"step": "%s.%s" % (step.program, step.name), "line": self.plan.document.line(step.start),
+                 "units": each, "obligations": [it.says for it in self.plan.obligations(step)]}
+                for step, each in self.units.items()]
 
     def total(self):
         return sum(sum(each) for each in self.units.values())
@@ -75,8 +81,9 @@ def without(plan, step, ref):
 
 
 def try_names(plan, costs):
-    """Drops each name after a `using` in turn, and tells those without which the step is proved all the same."""
-    tried = spare = 0
+    """Drops each name after a `using` in turn, and gives how many there are, and those without which the step is proved
+    all the same."""
+    tried, spare = 0, []
     for step, each in costs.units.items():
         kept = closure(plan, [step])
         others = sum(sum(costs.units[it]) for it in kept if it is not step)
@@ -85,11 +92,15 @@ def try_names(plan, costs):
             text = slice_of(plan, kept, {step: without(plan, step, ref)})
             proved, status = unity(["prove", min(1000000, others + 2 * sum(each) + 1000)], text)
             if status == 0:
-                spare += 1
-                now = Costs(Plan(proved), proved).of(step)
-                print("%s.%s: %s is not needed, %d units without it and %d with it" % (
-                    step.program, step.name, ref.word, now, sum(each)))
-    print("%d names after `using` tried, %d not needed, each by itself" % (tried, spare))
+                spare.append({"step": "%s.%s" % (step.program, step.name), "name": ref.word, "with": sum(each),
+                              "without": Costs(Plan(proved), proved).of(step)})
+    return tried, spare
+
+
+def tell_names(tried, spare):
+    for it in spare:
+        print("%(step)s: %(name)s is not needed, %(without)d units without it and %(with)d with it" % it)
+    print("%d names after `using` tried, %d not needed, each by itself" % (tried, len(spare)))
 
 
 def part_before(plan, step):
@@ -121,11 +132,15 @@ def add_options(parser):
     parser.add_argument("file", metavar="FILE", help="a document")
     parser.add_argument("budget", metavar="BUDGET", nargs="?", default="1000000", help="the units of the search")
     parser.add_argument("--using", action="store_true", help="tell the names after a `using` that are not needed")
+    parser.add_argument("--json", action="store_true", help="print the units, or the answer and its place, as JSON")
 
 
 def main(chosen):
     text = read_document(chosen.file).decode("latin-1")
     answer, status = unity(["prove", chosen.budget], text)
+    if status and chosen.json:
+        write_json(record(chosen.file, Answer(status, answer.encode("latin-1")), text.encode("latin-1")))
+        return status
     if status:
         write(answer.encode("latin-1"))
         if status != 2:
@@ -133,7 +148,11 @@ def main(chosen):
         return status
     plan = Plan(text)
     costs = Costs(plan, answer)
+    if chosen.json:
+        unneeded = {"unneeded": try_names(plan, costs)[1]} if chosen.using else {}
+        write_json({"file": chosen.file, "status": 0, "units": costs.total(), "steps": costs.records(), **unneeded})
+        return 0
     costs.table()
     if chosen.using:
-        try_names(plan, costs)
+        tell_names(*try_names(plan, costs))
     return 0

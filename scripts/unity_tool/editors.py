@@ -6,6 +6,7 @@ import os
 import re
 import sys
 
+from unity_tool.emacs import emacs
 from unity_tool.repository import TOP
 from unity_tool.wrong_use import Failure
 
@@ -135,7 +136,8 @@ def add_options(parser):
 
 def main(chosen):
     kinds, symbols, status = kinds_of_words(), names_in("Symbol"), 0
-    for name, make in (("unity.vim", vim), ("unity.tmLanguage.json", textmate), ("unity.xml", kate)):
+    for name, make in (("unity.vim", vim), ("unity.tmLanguage.json", textmate), ("unity.xml", kate),
+                       ("unity-mode.el", emacs)):
         path, text = os.path.join(TOP, "editors", name), make(kinds, symbols)
         if chosen.check:
             with open(path, encoding="utf-8") as file:

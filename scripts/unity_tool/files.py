@@ -5,13 +5,15 @@ import sys
 
 from unity_tool.places import place_of
 from unity_tool.program import READ_FAULT
-from unity_tool.wrong_use import Failure, WrongUse
+from unity_tool.wrong_use import WRONG_USE, Failure
 
 
 def need_readable(*names):
-    """A file that can't be read is a wrong use."""
-    if not all(os.access(name, os.R_OK) for name in names):
-        raise WrongUse
+    """A file that can't be read is a wrong use, and its name is said."""
+    for name in names:
+        if not os.access(name, os.R_OK):
+            why = "it can't be read" if os.path.lexists(name) else "there is no such file"
+            raise Failure(WRONG_USE, "%s: %s" % (name, why))
 
 
 def read_document(name):

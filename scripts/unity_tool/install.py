@@ -1,62 +1,66 @@
-"""Puts the built program and what belongs to it under one folder.
+"""Puts the built program and what belongs to it under one folder, or takes it away again.
 
-PREFIX is ~/.local where none is given. The program goes to PREFIX/bin, the manual page to PREFIX/share/man/man1, and
-the editors' files, the tool for authors and the pages to PREFIX/share/unity. For each of its commands, as why,
-PREFIX/bin has one, as unity-why. They need Python, and nothing of the repository or of the toolchain.
+PREFIX is ~/.local where none is given. The program goes to PREFIX/bin, with a command for each of the tool, as
+unity-why for why; the manual page to PREFIX/share/man/man1; and the tool, the pages, the examples and the editors'
+files to PREFIX/share/unity. The completions of bash, zsh and fish, and the files of Vim, Neovim and Emacs go where
+these look for them, below PREFIX/share. The commands need Python, and nothing of the repository or of the toolchain.
 The program is the one that `scripts/build.sh` or `scripts/test.sh` built: nothing is compiled here.
-"""
-import glob
-import os
-import shutil
 
-from unity_tool.repository import SCRIPTS, TOP, UNITY, is_built
+With --remove all that was installed under PREFIX goes again. What stands in PREFIX/share/unity/installed says what that
+is, and so a later install takes away what an earlier one has put there and it has not.
+"""
+import os
+
+from unity_tool import layout
+from unity_tool.repository import IS_INSTALLED, TOP, UNITY, is_built
 from unity_tool.wrong_use import Failure
 
-PAGES = ("TUTORIAL", "WRITING", "LANGUAGE", "LOGIC", "CERTIFICATES", "TERMS")
-# what is installed as a command, and the command of the tool that it is
-INSTALLED = {"check": "check", "prove": "prove", "why": "why", "cost": "cost", "check-all": "all", "watch": "watch",
-             "try": "try", "shrink": "shrink", "trace-svg": "trace"}
-STARTER = '#!/bin/sh\nexec python3 -B "$(dirname "$(readlink -f "$0")")/../share/unity/scripts/unity-tool" %s "$@"\n'
+LISTED = layout.SHARE + "/installed"
 
 
 def add_options(parser):
-    parser.add_argument("prefix", metavar="PREFIX", nargs="?", default=os.path.expanduser("~/.local"),
-                        help="the folder")
+    usual = os.path.join(TOP, "..", "..") if IS_INSTALLED else os.path.expanduser("~/.local")
+    parser.add_argument("prefix", metavar="PREFIX", nargs="?", default=os.path.normpath(usual), help="the folder")
+    parser.add_argument("--remove", action="store_true", help="take away what was installed")
 
 
-def put(source, folder, mode=0o644):
-    """Copies a file into a folder, as one that is executed or not."""
-    os.makedirs(folder, exist_ok=True)
-    target = os.path.join(folder, os.path.basename(source))
-    if os.path.lexists(target):
-        os.remove(target)
-    shutil.copyfile(source, target)
-    os.chmod(target, mode)
+def installed(prefix):
+    """The names of what was installed under a folder."""
+    try:
+        with open(os.path.join(prefix, LISTED), encoding="utf-8") as file:
+            return file.read().splitlines()
+    except OSError:
+        return []
 
 
-def put_commands(folder):
-    """Writes a command for each command of the tool that authors use, and prints its name."""
-    for name, command in INSTALLED.items():
-        path = os.path.join(folder, "unity-" + name)
-        with open(path, "w", encoding="utf-8") as file:
-            file.write(STARTER % command)
-        os.chmod(path, 0o755)
-        print(path)
+def remove(prefix, names):
+    """Takes these away, and the folders that are empty then."""
+    for name in names:
+        path = os.path.join(prefix, name)
+        if os.path.lexists(path):
+            os.remove(path)
+        folder = os.path.dirname(name)
+        while folder and os.path.isdir(os.path.join(prefix, folder)) and not os.listdir(os.path.join(prefix, folder)):
+            os.rmdir(os.path.join(prefix, folder))
+            folder = os.path.dirname(folder)
 
 
 def main(chosen):
+    before = installed(chosen.prefix)
+    if chosen.remove:
+        if not before:
+            raise Failure(1, "nothing is installed under %s" % chosen.prefix)
+        remove(chosen.prefix, before + [LISTED])
+        return 0
+    if IS_INSTALLED:
+        raise Failure(1, "it is installed from a checkout: bash scripts/install.sh")
     if not is_built():
         raise Failure(1, "%s is not built: bash scripts/build.sh" % os.path.relpath(UNITY, TOP))
-    programs, share = os.path.join(chosen.prefix, "bin"), os.path.join(chosen.prefix, "share", "unity")
-    put(UNITY, programs, 0o755)
-    put(os.path.join(TOP, "docs", "unity.1"), os.path.join(chosen.prefix, "share", "man", "man1"))
-    for file in sorted(glob.glob(os.path.join(TOP, "editors", "*"))):
-        put(file, os.path.join(share, "editors"))
-    for page in PAGES:
-        put(os.path.join(TOP, "docs", page + ".md"), os.path.join(share, "docs"))
-    put(os.path.join(SCRIPTS, "unity-tool"), os.path.join(share, "scripts"), 0o755)
-    for file in sorted(glob.glob(os.path.join(SCRIPTS, "unity_tool", "*.py"))):
-        put(file, os.path.join(share, "scripts", "unity_tool"))
-    put_commands(programs)
-    print(os.path.join(programs, "unity"))
+    items = layout.items()
+    names = [item.name for item in items]
+    remove(chosen.prefix, sorted(set(before) - set(names)))
+    for item in items + [layout.Item(LISTED, "".join(name + "\n" for name in names).encode())]:
+        path = layout.put(item, chosen.prefix)
+        if item.name.startswith("bin/"):
+            print(path)
     return 0

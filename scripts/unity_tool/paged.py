@@ -9,7 +9,7 @@ import subprocess
 import sys
 import threading
 
-from unity_tool.repository import SCRIPTS, TOP, is_built
+from unity_tool.repository import IS_INSTALLED, SCRIPTS, TOP, is_built
 
 PAGE = os.path.join(TOP, "playground", "unity.html")
 MODULE = os.path.join(SCRIPTS, "unity_tool", "module.mjs")
@@ -39,8 +39,8 @@ def present_sources():
 
 
 def is_present():
-    """Whether the page is of the present sources."""
-    return foot_of_page()[1] == present_sources()
+    """Whether the page is of the present sources; where it is installed it is."""
+    return IS_INSTALLED or foot_of_page()[1] == present_sources()
 
 
 def tell():

@@ -2,8 +2,10 @@
 import random
 import re
 import textwrap
+from typing import NamedTuple, Optional
 
 from unity_tool.files import write
+from unity_tool.leads import Looking, leads_of
 from unity_tool.program import unity
 
 # a random schedule has so many rounds more than the greatest bound of the proof, and no more choices than these
@@ -16,7 +18,7 @@ class Scheduled:
 
     def __init__(self, plan, program):
         text = plan.document.text
-        self.program = program
+        self.plan, self.program = plan, program
         if plan.document.scheduled:
             self.before, self.after = text[:plan.document.schedule], text[plan.document.scheduled.end:]
         else:
@@ -62,33 +64,40 @@ def fair(instances, rounds, draw):
     return choices
 
 
-def bounds_in(answer):
-    """The bounds of the steps that `watch` tells of."""
-    return [int(it) for it in re.findall(r"(?m)^\S+ (?:leadsto|until|detects) (\d+)$", answer)]
+class Trial(NamedTuple):
+    """What became of random schedules: a status, what `unity` said or what is said of all of them, the leads-to with
+    the rounds that they took, and the choices of the schedule on which a step is violated."""
+    status: int
+    says: str
+    leads: list
+    choices: Optional[list] = None
 
 
-def try_some(plan, program, count, seed):
-    """Watches random schedules of a program, writes the first on which a step is violated, and gives the status and
-    what is said of it."""
-    scheduled = Scheduled(plan, program)
+def try_some(scheduled, count, seed, step=None):
+    """Watches random schedules of a program up to the first on which a step is violated, this one where it is given."""
+    plan, program = scheduled.plan, scheduled.program
     answer, status = scheduled.watch([])
-    if status == 10:
-        scheduled.write([])
     if status:
-        return status, answer.rstrip("\n")
-    source, instances = random.Random(seed), plan.instances(program)
-    rounds = max(bounds_in(answer) + [0]) + MORE_ROUNDS
+        return Trial(status, answer.rstrip("\n"), [], [] if status == 10 else None)
+    looking = Looking(plan, program, leads_of(plan, program, answer))
+    source, instances, others = random.Random(seed), plan.instances(program), 0
+    rounds = max([lead.bound for lead in looking.leads] + [0]) + MORE_ROUNDS
 
     def draw(most):
         # of all that Random gives, this alone stays the same from one Python to the next
         return int(source.random() * most)
 
     for number in range(1, count + 1):
-        found = scheduled.broken(fair(instances, rounds, draw))
-        if found:
-            scheduled.write(found[1])
-            return 10, "%sschedule %d of %d" % (found[2], number, count)
-    return 0, "none of %d schedules is violated" % count
+        choices = fair(instances, rounds, draw)
+        found = scheduled.broken(choices)
+        if found and step in (None, found[0]):
+            return Trial(10, "%sschedule %d of %d" % (found[2], number, count), looking.leads, found[1])
+        others += bool(found)
+        looking.look(found[1] if found else choices)
+    says = ["none of %d schedules is violated" % count if step is None else
+            "%s is violated on none of %d schedules" % (step, count)]
+    says += ["on %d of them another step is violated first" % others] if others else []
+    return Trial(0, "\n".join(says + looking.told(count)), looking.leads)
 
 
 def shrink(plan):

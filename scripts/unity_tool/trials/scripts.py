@@ -1,5 +1,5 @@
-"""What the scripts write and print: files that are compared with what they would write, the installed commands, and
-checkers of the scripts themselves."""
+"""What the scripts write and print: files that are compared with what they would write, and checkers of the scripts
+themselves."""
 import glob
 import json
 import os
@@ -11,6 +11,7 @@ from unity_tool import paged
 from unity_tool.repository import SCRIPTS, TOP, UNITY
 from unity_tool.trials.asking import ask, read, script
 from unity_tool.trials.cases import Case, faults, other_status, single, unlike
+from unity_tool.trials.documents import documents
 
 # what a script would write is there: the script, and what it writes
 WRITTEN = [("editors.sh", "the files in editors/"), ("reading.sh", "docs/READING.md"),
@@ -21,17 +22,6 @@ COUNTED = [(("python3", "-B", "scripts/sentences.py"), "the sentences and links 
            (("python3", "-B", "scripts/exercises.py"), "the exercises", 30),
            (("bash", "scripts/gate_cost.sh", "--self-test"), "the report on what the gate costs", 1)]
 FUZZ_SECONDS, FUZZ_SEED = "20", "1"
-
-# an installed command, or a link to one, and the script that does the same here
-INSTALLED = [
-    ("checks examples/count.unity", "bash scripts/check.sh examples/count.unity"),
-    ("unity check < examples/count.unity", "crates/unity/out/unity check < examples/count.unity"),
-    ("unity-why examples/pick.unity", "bash scripts/why.sh examples/pick.unity"),
-    ("unity-watch examples/race.unity", "bash scripts/watch.sh examples/race.unity"),
-    ("unity-try examples/lost_update_mended.unity Tally 1 1",
-     "bash scripts/try.sh examples/lost_update_mended.unity Tally 1 1"),
-    ("unity-check-all examples/causes 2", "bash scripts/check_all.sh examples/causes"),
-]
 
 
 def is_written(name):
@@ -48,19 +38,6 @@ def alike():
     """Of documents that were changed at random two ways of one question say the same."""
     came = script("fuzz.sh", FUZZ_SECONDS, FUZZ_SEED)
     return faults(other_status(0, came), came.text.decode("latin-1"))
-
-
-def installed(room):
-    """From a folder that scripts/install.sh wrote the commands do what the scripts do here."""
-    prefix = os.path.join(room, "here")
-    yield "scripts/install.sh", other_status(0, script("install.sh", prefix))
-    link = os.path.join(room, "checks")
-    os.symlink(os.path.join(prefix, "bin", "unity-check"), link)
-    path = os.pathsep.join([os.path.join(prefix, "bin"), room, os.environ["PATH"]])
-    for command, here in INSTALLED:
-        came = ask(["bash", "-c", command + " 2>&1"], env={**os.environ, "PATH": path})
-        wanted = ask(["bash", "-c", here + " 2>&1"])
-        yield "the installed " + command, faults(other_status(wanted.status, came), unlike(wanted.text, came.text))
 
 
 def none_left(room):
@@ -88,6 +65,28 @@ def matchers():
                 None if re.search(pattern, line) else "%s does not match %s" % (pattern, line)
 
 
+def matched():
+    """The pattern of editors/matcher.json takes the place and the message of a refusal, and leaves out what passes."""
+    pattern = json.loads(read("editors", "matcher.json"))["problemMatcher"][0]["pattern"][0]
+    lines = {"a.unity:4:27: bad 3 Unexpected byte 61": ("a.unity", "4", "27", "bad 3 Unexpected byte 61"),
+             "b/c.unity:13: refuted Pick.safe": ("b/c.unity", "13", None, "refuted Pick.safe"),
+             "d.unity: accepted 2 steps 3 obligations": None}
+    for line, wanted in lines.items():
+        found = re.search(pattern["regexp"], line)
+        taken = found and tuple(found.group(pattern[name]) for name in ("file", "line", "column", "message"))
+        yield "the pattern of editors/matcher.json on " + line, unlike(wanted, taken, "match")
+
+
+def node_answers():
+    """By node alone the lines are those of scripts/check.sh, where the page is of the present sources."""
+    if not paged.is_there() or not paged.is_present():
+        return None
+    names = [document.path for document in documents("examples/mistakes")]
+    came, wanted = ask(["node", "scripts/check.mjs", *names]), script("check.sh", "--short", *names)
+    lines = came.text[:came.text.rindex(b"\n", 0, -1) + 1]
+    return faults(other_status(wanted.status, came), unlike(wanted.text, lines))
+
+
 def page_answers(room):
     """The page's module answers as the built program over all of examples/, where node is there and the page is of the
     present sources: else it need not."""
@@ -108,13 +107,14 @@ def python_with(module):
 
 def checkers():
     """What shellcheck and pyflakes find in the scripts, where they are there."""
-    shells = sorted(glob.glob(os.path.join(SCRIPTS, "**", "*.sh"), recursive=True))
-    pythons = sorted(glob.glob(os.path.join(SCRIPTS, "**", "*.py"), recursive=True))
+    shells, pythons = (sorted(name for folder in (SCRIPTS, os.path.join(TOP, "bench")) for name in
+                              glob.glob(os.path.join(folder, "**", "*" + ending), recursive=True))
+                       for ending in (".sh", ".py"))
     if shutil.which("shellcheck"):
-        yield "shellcheck of scripts/", faults(ask(["shellcheck", "-x", *shells]).text.decode())
+        yield "shellcheck of scripts/ and bench/", faults(ask(["shellcheck", "-x", *shells]).text.decode())
     python = python_with("pyflakes")
     if python:
-        yield "pyflakes of scripts/", faults(ask([python, "-m", "pyflakes", *pythons,
+        yield "pyflakes of scripts/ and bench/", faults(ask([python, "-m", "pyflakes", *pythons,
                                                   os.path.join(SCRIPTS, "unity-tool")]).text.decode())
 
 
@@ -124,8 +124,9 @@ def cases():
         yield single(what, lambda name=name: is_written(name), 3)
     for words, what, seconds in COUNTED:
         yield single(what, lambda words=words: counted(words), seconds)
-    yield Case("the installed commands", installed, 5)
     yield Case("an old proved document", none_left, 1)
     yield Case("the patterns of editors/tasks.json", lambda room: matchers(), 1)
+    yield Case("the pattern of editors/matcher.json", lambda room: matched(), 1)
+    yield single("the lines of scripts/check.mjs", node_answers, 10)
     yield Case("the answers of the page's module", page_answers, 40)
     yield Case("the scripts themselves", lambda room: checkers(), 5)

@@ -7,8 +7,8 @@ from unity_tool.repository import TOP
 from unity_tool.trials.asking import read
 from unity_tool.trials.cases import Case, unlike
 
-# the pages that have commands, and how many seconds they take
-PAGES = [("docs/TUTORIAL.md", 60)]
+# about how many seconds a command of a page takes
+EACH_SECONDS = 0.3
 
 
 def carry_out(name, parts, room, tells_status):
@@ -33,6 +33,15 @@ def seconds_of(name):
     return float(first.split(b":")[1]) if first.startswith(b"# seconds:") else 1
 
 
+def pages():
+    """The pages that have commands, with how many."""
+    for name in sorted(glob.glob(os.path.join(TOP, "*.md")) + glob.glob(os.path.join(TOP, "*", "**", "*.md"),
+                                                                        recursive=True)):
+        commands = read(name).count(b"\n$ ")
+        if b"\n```console\n" in read(name) and commands:
+            yield os.path.relpath(name, TOP), commands
+
+
 def consoles():
     """The sessions, in the order of their names."""
     found = [name for folder in ("examples", "tests") for name in
@@ -41,7 +50,7 @@ def consoles():
 
 
 def cases():
-    for name, seconds in PAGES:
-        yield Case(name, lambda room, name=name: page(name, room), seconds)
+    for name, commands in pages():
+        yield Case(name, lambda room, name=name: page(name, room), commands * EACH_SECONDS)
     for name in consoles():
         yield Case(name, lambda room, name=name: console(name, room), seconds_of(name))

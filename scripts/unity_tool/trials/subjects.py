@@ -2,7 +2,8 @@
 
 A subject of your own is a line here: its function takes nothing, and yields a `Case` for each test (cases.py).
 """
-from unity_tool.trials import asked_rows, causes, generated, mistakes, refusing, scripts, sessions, suffixes
+from unity_tool.trials import asked_rows, causes, generated, installing, machines, mistakes, refusing, scripts, \
+    sessions, suffixes
 
 SUBJECTS = [
     ("documents", suffixes.beside_documents),
@@ -14,4 +15,6 @@ SUBJECTS = [
     ("generated", generated.cases),
     ("refusing", refusing.cases),
     ("scripts", scripts.cases),
+    ("installing", installing.cases),
+    ("machines", machines.cases),
 ]
