@@ -25,6 +25,7 @@ COMMANDS = {
     "prove": Command("prove", "bash scripts/prove.sh FILE [BUDGET]", "finds the certificates of a document"),
     "why": Command("why", "bash scripts/why.sh FILE [BUDGET]", "says why a document is refused"),
     "cost": Command("cost", "bash scripts/cost.sh FILE [--using] [BUDGET]", "says what certificates cost"),
+    "vacuous": Command("vacuous", "bash scripts/vacuous.sh FILE", "tells steps that say nothing"),
     "watch": Command("watch", "bash scripts/watch.sh FILE", "reads the claims of a proof on a schedule"),
     "try": Command("trying", "bash scripts/try.sh FILE PROGRAM COUNT SEED [--step NAME] > DOCUMENT",
                    "tries random schedules"),
