@@ -32,6 +32,7 @@ COMMANDS = {
     "all": Command("check_all", "bash scripts/check_all.sh FOLDER [JOBS]", "checks all documents below a folder"),
     "unity": Command("pass_on", "bash scripts/unity.sh WORD.. < FILE", "runs `unity` on standard input"),
     "place": Command("place", "scripts/unity-tool place NAME FILE < ANSWER", "shows the place that an answer names"),
+    "spin": Command("spin", "scripts/unity-tool spin FILE [STEP..]", "asks SPIN for a second opinion"),
     "lsp": Command("lsp", "scripts/unity-tool lsp", "serves editors that speak LSP"),
     "install": Command("install", "bash scripts/install.sh [PREFIX]", "puts all of this under one folder"),
     "run-tests": Command("trials.run", "scripts/unity-tool run-tests [OPTION..]", "runs the tests"),
