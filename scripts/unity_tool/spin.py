@@ -12,7 +12,7 @@ import re
 import sys
 
 from unity_tool import schedules
-from unity_tool.files import read_document
+from unity_tool.files import read_document, write
 from unity_tool.places import show
 from unity_tool.plan import Plan
 from unity_tool.program import ask, need_answers, unity
@@ -75,10 +75,15 @@ def tell_run(asked, verdict, text):
     bound = bounds_of(text, asked.model.program).get(verdict.named(), 0)
     made = asked.document(verdict.found, bound)
     answer, status = unity(["watch"], made)
+    if status == VIOLATED and verdict.found.cycle is None:
+        # (a search by breadth: no run is shorter)
+        write(made.encode("latin-1"))
+        note(answer.rstrip("\n"))
+        return VIOLATED
     if status == VIOLATED:
         note(schedules.shrink(Plan(made)).rstrip("\n"))
         return VIOLATED
-    sys.stdout.write(made.encode("latin-1").decode("utf-8", "replace"))
+    write(made.encode("latin-1"))
     if status == 0:
         note("SPIN and `watch` disagree: SPIN finds %s violated on this schedule, and `watch` does not. "
              "This is an error in one of them; please report it with the document." % verdict.named())

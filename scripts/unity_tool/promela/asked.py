@@ -105,8 +105,12 @@ class Asked:
         plain = Scheduled(self.plan, self.model.program).text(choices)
         if unity(["watch"], plain)[1] == 10:
             return plain
+        return self.from_initial(found, choices)
+
+    def from_initial(self, found, choices=None):
+        """The document with a run that begins at the initial state that SPIN chose."""
         plan = Plan(with_start(self.plan, self.model.program, self.start_of(found)))
-        return Scheduled(plan, self.model.program).text(choices)
+        return Scheduled(plan, self.model.program).text(found.choices if choices is None else choices)
 
     def start_of(self, found):
         """The initial state of a run: each slot with its value."""
