@@ -2,7 +2,8 @@
 
 A subject of your own is a line here: its function takes nothing, and yields a `Case` for each test (cases.py).
 """
-from unity_tool.trials import asked_rows, causes, generated, mistakes, refusing, scripts, sessions, suffixes
+from unity_tool.trials import (asked_rows, causes, editing, generated, mistakes, refusing, scripts, serving, sessions,
+                               spinning, suffixes)
 
 SUBJECTS = [
     ("documents", suffixes.beside_documents),
@@ -14,4 +15,7 @@ SUBJECTS = [
     ("generated", generated.cases),
     ("refusing", refusing.cases),
     ("scripts", scripts.cases),
+    ("server", serving.cases),
+    ("editing", editing.cases),
+    ("spin", spinning.cases),
 ]
