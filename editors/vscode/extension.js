@@ -49,7 +49,8 @@ function listen(server, found) {
     found.set(vscode.Uri.parse(params.uri), params.diagnostics.map(diagnostic)));
   server.on('window/showMessage', params => params.type === 1
     ? vscode.window.showErrorMessage(params.message) : vscode.window.showInformationMessage(params.message));
-  server.on('workspace/applyEdit', async params => ({ applied: await vscode.workspace.applyEdit(editOf(params.edit)) }));
+  server.on('workspace/applyEdit', async params => (
+    { applied: await vscode.workspace.applyEdit(editOf(params.edit)) }));
 }
 
 // What the server is told of documents.

@@ -9,7 +9,7 @@
 
 (defun seen-wait (before tick)
   "Wait until the server has judged the document, where TICK tells that it was changed since BEFORE."
-  (let ((end (+ (float-time) 60)))
+  (let ((end (+ (float-time) 300)))
     (while (and (< (float-time) end)
                 (not (or (> unity-judged before)
                          (and (> unity-judged 0) (= tick (buffer-chars-modified-tick))))))

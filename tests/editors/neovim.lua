@@ -10,7 +10,7 @@ local function count() return UnityJudged[vim.uri_from_bufnr(0)] or 0 end
 local function text() return table.concat(vim.api.nvim_buf_get_lines(0, 0, -1, false), "\n") end
 
 local function settled(before, old)
-  vim.wait(60000, function()
+  vim.wait(300000, function()
     local changed = text() ~= old
     return count() > before or (not changed and count() > 0)
   end, 20)

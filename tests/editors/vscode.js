@@ -36,8 +36,9 @@ const vscode = {
   window: { showErrorMessage: it => console.log('error: ' + it), showInformationMessage: it => console.log(it) },
   commands: { registerCommand: (name, act) => { commands[name] = act; return { dispose() {} }; } },
 };
-for (const name of ['Hover', 'MarkdownString', 'Location', 'DocumentSymbol', 'FoldingRange', 'CompletionItem', 'CodeLens',
-                    'CodeAction', 'SemanticTokens', 'SemanticTokensLegend']) vscode[name] = class extends Values {};
+const made = ['Hover', 'MarkdownString', 'Location', 'DocumentSymbol', 'FoldingRange', 'CompletionItem', 'CodeLens',
+              'CodeAction', 'SemanticTokens', 'SemanticTokensLegend'];
+for (const name of made) vscode[name] = class extends Values {};
 
 const load = Module._load;
 Module._load = (name, ...more) => (name === 'vscode' ? vscode : load(name, ...more));

@@ -45,7 +45,8 @@ class Asked:
 
     def search(self, monitor, formula=None):
         formulas = [formula] if formula else []
-        return search(self.model.text(monitor, formulas), formula and formula[0], len(self.model.instances), self.limits)
+        text = self.model.text(monitor, formulas)
+        return search(text, formula and formula[0], len(self.model.instances), self.limits)
 
     def safety(self, steps):
         """What one step shows: all claims in one run, and the others again where one is violated."""

@@ -1,4 +1,5 @@
-"""The claims of a proof for SPIN: what one step shows is asserted in one run, and progress is a formula for each case."""
+"""The claims of a proof for SPIN: what one step shows is asserted in one run, and progress is a formula for each
+case."""
 from typing import NamedTuple, Optional
 
 from unity_tool.formulas import value_of

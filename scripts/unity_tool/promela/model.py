@@ -161,7 +161,8 @@ class Model:
             slot = "v_" + variable.name + ("" if index is None else "[i%d - (%d)]" % (at, places_of(variable)[0]))
             moved.append("c%d && %s != w%d" % (at, slot, at))
             does.append("if :: c%d -> %s = w%d :: else fi;" % (at, slot, at))
-        tidy = "undefined = false; changed = false; " + " ".join("c%d = 0; w%d = 0; i%d = 0;" % (at, at, at) for at in range(len(writes)))
+        tidy = " ".join(["undefined = false; changed = false;"] + [
+            "c%d = 0; w%d = 0; i%d = 0;" % (at, at, at) for at in range(len(writes))])
         moves = " || ".join("(%s)" % it for it in moved) or "false"
         does = ["changed = %s;" % moves, *does, 'printf("@@ %s\\n");' % name]
         lines = reads + before["undefined"] + ["if :: undefined -> skip :: else ->"] + before["step"] + does

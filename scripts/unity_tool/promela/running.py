@@ -59,8 +59,9 @@ def search(model, formula, processes, limits):
             file.write(model)
         made = run(["spin", "-a", "model.pml"], room, limits)
         flags = ["-DNFAIR=%d" % (processes // 4 + 3)] if formula else ["-DBFS", "-DSAFETY"]
-        built = made and run(["gcc", "-O1" if limits.seconds > QUICK else "-O0", "-w", "-DNOREDUCE", "-DMEMLIM=%d" % limits.memory, "-DVECTORSZ=65536", *flags,
-                              "-o", "pan", "pan.c"], room, limits)
+        flags += ["-O1" if limits.seconds > QUICK else "-O0", "-w", "-DNOREDUCE", "-DVECTORSZ=65536",
+                  "-DMEMLIM=%d" % limits.memory]
+        built = made and run(["gcc", *flags, "-o", "pan", "pan.c"], room, limits)
         if not os.path.exists(os.path.join(room, "pan")):
             return Found(UNDECIDED, why=out_of_time(limits) if limits.left() <= 0 else said_by(made, built))
         words = ["-a", "-f", "-N", formula, "-m%d" % DEPTH] if formula else []

@@ -176,7 +176,8 @@ class Judge:
     def tell_steps(self, accepted):
         """The steps, with their records where these are known."""
         self.steps = told.steps_of(self.plan)
-        records = told.records_in(accepted) if accepted else told.records_of(self.text.before_certificates(), self.plan)
+        records = told.records_in(accepted) if accepted else told.records_of(
+            self.text.before_certificates(), self.plan)
         state = {"%s.%s" % (it.program, it.name): word for it, word in self.states.items()}
         rows = []
         for it in self.steps:
@@ -184,8 +185,8 @@ class Judge:
             resting = [one for one in it.rests if state.get(one, OPEN) not in (PROVED, OPEN)]
             rows.append({"named": named, "program": it.program, "name": it.name, "state": word,
                          "record": records.get(named, it.kind), "first": it.first, "count": it.count,
-                         "says": [[shown(says), self.text.place(at)["line"] + 1] for says, at in it.says], "using": it.using,
-                         "rests": resting, "words": self.latin[it.start:it.end], "start": it.start, "end": it.end})
+                         "says": [[shown(says), self.text.place(at)["line"] + 1] for says, at in it.says],
+                         "using": it.using, "rests": resting, "words": self.latin[it.start:it.end], "start": it.start, "end": it.end})
             if word == OPEN and state.get(named) is None and self.found:
                 because = "it rests on %s" % ", ".join(resting) if resting else "the search did not come to it"
                 self.found.append({"range": self.text.range(it.start, it.end), "severity": INFORMATION,

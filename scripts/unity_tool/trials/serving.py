@@ -150,8 +150,8 @@ def no_document(room):
                 outside(found, text.encode("utf-8", "replace").decode()) or (None if found else "nothing was found")
         for data in (b"Content-Length: x\r\n\r\n", b"Content-Length: 3\r\n\r\n{]}", b"Content-Length: 2\r\n\r\n[]"):
             editor.write(data)
-        for method, params in (("textDocument/hover", {}), ("textDocument/hover", {"textDocument": 3}), ("nothing", {}),
-                               ("textDocument/rename", {"textDocument": {"uri": "file:///none"}})):
+        for method, params in (("textDocument/hover", {}), ("textDocument/hover", {"textDocument": 3}),
+                               ("nothing", {}), ("textDocument/rename", {"textDocument": {"uri": "file:///none"}})):
             answer = editor.ask(method, params)
             yield "the server on a wrong %s" % method, None if "code" in (answer or {}) else "it has no error"
         big = "unity 1\nprogram P assign s: x := 1 end\ncertificates\n" + "1: sum 1 * 1 ;\n" * 560000 + "end\n"
@@ -180,9 +180,10 @@ def names(room):
     with Editor() as editor:
         editor.open("file:///n", text)
         at = {"line": 2, "character": 8}
-        places = [(it["range"]["start"]["line"], it["range"]["start"]["character"])
-                  for it in editor.of("references", "file:///n", position=at)]
-        yield "references of a variable", None if places == [(2, 8), (3, 10), (3, 47), (7, 17), (8, 18)] else str(places)
+        starts = [it["range"]["start"] for it in editor.of("references", "file:///n", position=at)]
+        places = [(it["line"], it["character"]) for it in starts]
+        wanted = [(2, 8), (3, 10), (3, 47), (7, 17), (8, 18)]
+        yield "references of a variable", None if places == wanted else str(places)
         found = editor.of("definition", "file:///n", position={"line": 8, "character": 39})
         yield "the definition of a step", None if found and found["range"]["start"] == {
             "line": 7, "character": 2} else str(found)

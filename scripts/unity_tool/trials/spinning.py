@@ -1,5 +1,6 @@
 """SPIN against `unity`, where SPIN is there: what `check` accepts is violated in no state that SPIN finds, of small
 programs no run takes more rounds than the bound, and what SPIN finds violated `watch` finds violated too."""
+import os
 import re
 
 from unity_tool.plan import Plan
@@ -68,7 +69,6 @@ def starves(room):
 def asked_by_why(room):
     """`why` asks SPIN whether a run comes to the state, and says so."""
     del room
-    import os
     if not running.is_there():
         return
     came = script("why.sh", "examples/race.unity", env={**os.environ, "UNITY_SPIN": "1"}).text.decode()
