@@ -46,6 +46,13 @@ class Model:
 
     # variables
 
+    def variable(self, name):
+        """The variable of a name, or nothing. A claim may speak of one that the program does not show: it has any
+        value, and keeps it."""
+        if name not in self.variables and name in self.document.variables:
+            self.variables[name] = self.document.variables[name]
+        return self.variables.get(name)
+
     def slots(self):
         """Each slot: its variable, and its index or nothing."""
         for it in self.variables.values():
@@ -86,10 +93,10 @@ class Model:
             return "(%d)" % known[node.name] if known[node.name] < 0 else str(known[node.name])
         if node.name in self.document.defs:
             return self.say(self.document.defs[node.name], {})
-        return "v_" + node.name if node.name in self.variables else str(self.words[node.name])
+        return "v_" + node.name if self.variable(node.name) else str(self.words[node.name])
 
     def say_index(self, node, known):
-        variable = self.variables[node.name]
+        variable = self.variable(node.name)
         (low, high), said = places_of(variable), self.say(node.parts[0], known)
         at = number_in(said)
         if at is not None:

@@ -61,7 +61,9 @@ def search(model, formula, processes, limits):
         flags = ["-DNFAIR=%d" % (processes // 4 + 3)] if formula else ["-DBFS", "-DSAFETY"]
         flags += ["-O1" if limits.seconds > QUICK else "-O0", "-w", "-DNOREDUCE", "-DVECTORSZ=65536",
                   "-DMEMLIM=%d" % limits.memory]
-        built = made and run(["gcc", *flags, "-o", "pan", "pan.c"], room, limits)
+        if not os.path.exists(os.path.join(room, "pan.c")):
+            return Found(UNDECIDED, why=out_of_time(limits) if limits.left() <= 0 else said_by(made, None))
+        built = run(["gcc", *flags, "-o", "pan", "pan.c"], room, limits)
         if not os.path.exists(os.path.join(room, "pan")):
             return Found(UNDECIDED, why=out_of_time(limits) if limits.left() <= 0 else said_by(made, built))
         words = ["-a", "-f", "-N", formula, "-m%d" % DEPTH] if formula else []
@@ -71,7 +73,8 @@ def search(model, formula, processes, limits):
 
 def said_by(made, built):
     """What SPIN or the compiler said of a model that they did not take."""
-    lines = [line for line in ((made or "") + (built or "")).split("\n") if "rror" in line or "kill" in line.lower()]
+    said = "%s\n%s" % (made or "", built or "")
+    lines = [line for line in said.split("\n") if "rror" in line] + [line for line in said.split("\n") if line.strip()]
     return "SPIN does not take the model: " + (lines[0].strip() if lines else "no word of why")
 
 

@@ -157,7 +157,7 @@ def no_document(room):
         big = "unity 1\nprogram P assign s: x := 1 end\ncertificates\n" + "1: sum 1 * 1 ;\n" * 560000 + "end\n"
         editor.open("file:///big", big)
         found = editor.wait("file:///big")
-        yield "the server on 8 MB", None if found and found[0]["code"] == "10" else "it found %s" % found
+        yield "the server on 8 MB", None if found and found[0]["code"] == "3" else "it found %s" % found
         yield "the server after all that", None if editor.ask("shutdown", {}) is None else "it does not shut down"
 
 
