@@ -37,6 +37,8 @@ COMMANDS = {
                    "checks all documents below a folder"),
     "unity": Command("pass_on", "bash scripts/unity.sh WORD.. < FILE", "runs `unity` on standard input"),
     "place": Command("place", "scripts/unity-tool place NAME FILE < ANSWER", "shows the place that an answer names"),
+    "spin": Command("spin", "scripts/unity-tool spin FILE [STEP..]", "asks SPIN for a second opinion"),
+    "lsp": Command("lsp", "scripts/unity-tool lsp", "serves editors that speak LSP"),
     "install": Command("install", "bash scripts/install.sh [--remove] [PREFIX]", "puts all of this under one folder"),
     "completions": Command("completions", "scripts/unity-tool completions SHELL", "writes completions for a shell"),
     "deb": Command("deb", "scripts/unity-tool deb [FOLDER]", "makes a package for Debian"),

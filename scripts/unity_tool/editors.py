@@ -2,6 +2,7 @@
 
 With --check it writes nothing, and fails where a file there is not what it would write.
 """
+import json
 import os
 import re
 import sys
@@ -130,14 +131,23 @@ def kate(kinds, symbols):
     return KATE_HEAD + lists + KATE_TAIL % signs
 
 
+def words(kinds, symbols):
+    """The table for the language server."""
+    return json.dumps({**kinds, "symbols": symbols}, indent=1) + "\n"
+
+
 def add_options(parser):
     parser.add_argument("--check", action="store_true", help="write nothing, and compare with the files")
 
 
+# what is written, and how it is made
+WRITTEN = (("unity.vim", vim), ("unity.tmLanguage.json", textmate), ("unity.xml", kate), ("words.json", words),
+           ("vscode/syntaxes/unity.tmLanguage.json", textmate))
+
+
 def main(chosen):
     kinds, symbols, status = kinds_of_words(), names_in("Symbol"), 0
-    for name, make in (("unity.vim", vim), ("unity.tmLanguage.json", textmate), ("unity.xml", kate),
-                       ("unity-mode.el", emacs)):
+    for name, make in WRITTEN:
         path, text = os.path.join(TOP, "editors", name), make(kinds, symbols)
         if chosen.check:
             with open(path, encoding="utf-8") as file:

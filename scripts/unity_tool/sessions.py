@@ -97,7 +97,7 @@ def carry_out(parts, room, tells_status=False):
     session = os.path.join(room, "session")
     write(session, script_of(parts, room, tells_status).encode())
     subprocess.run(["bash", session], cwd=TOP, stdin=subprocess.DEVNULL, check=False,
-                   env={**os.environ, "HOME": home, "PATH": path + os.pathsep + os.environ["PATH"]})
+                   env={"UNITY_SPIN": "0", **os.environ, "HOME": home, "PATH": path + os.pathsep + os.environ["PATH"]})
     for number, part in enumerate(parts):
         if isinstance(part, Command):
             came = os.path.join(room, "%d.came" % number)

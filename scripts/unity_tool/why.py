@@ -5,8 +5,9 @@ status. Where `scripts/prove.sh` has written the proved document beside it, and 
 searched for. Of a refusal it prints the place and what docs/WRITING.md says of the code. Of a refutation it names the
 statement, and asks `unity` what this makes of the state that was printed: what changes, or which write is undefined,
 which part of the claim does not hold after it, and which invariants of the proof exclude the state. It judges nothing
-by itself: each truth that it tells is a value in a replay, or a claim that `unity prove` accepted or refuted. BUDGET is
-1000000 where none is given.
+by itself: each truth that it tells is a value in a replay, or a claim that `unity prove` accepted or refuted. Where
+spin and gcc are there, SPIN is asked for ten seconds whether a run comes to the state, and such a run is replayed;
+UNITY_SPIN=0 lets that be. BUDGET is 1000000 where none is given.
 """
 import os
 import re
@@ -17,6 +18,7 @@ from unity_tool.formulas import choices, pieces, value_of
 from unity_tool.plan import Plan, closure, programs_in
 from unity_tool.probe import excluded, look, made_writes
 from unity_tool.program import unity
+from unity_tool.promela import second
 from unity_tool.refusals import explain_bad, explain_rejected, usual
 from unity_tool.sides import Sides
 
@@ -274,4 +276,6 @@ def main(chosen):
     say(answer.strip() if status else "nothing to explain: it is %s" % ("accepted" if has_certificates else "proved"))
     if status in (1, 2, 3, 4):
         explain(chosen.file, text, answer)
+    if status == 3:
+        second.tell(text, answer)
     return status

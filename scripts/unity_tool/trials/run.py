@@ -39,6 +39,11 @@ def prefer_this_python():
     os.environ["PATH"] = os.path.dirname(sys.executable) + os.pathsep + os.environ["PATH"]
 
 
+def leave_spin_out():
+    """What is started from here on answers the same where SPIN is there; the tests of SPIN ask for it."""
+    os.environ.setdefault("UNITY_SPIN", "0")
+
+
 def tell_costs(tally, slowest):
     for seconds, name in sorted(tally.times, reverse=True)[:slowest]:
         print("%7.2f s %s" % (seconds, name))
@@ -59,6 +64,7 @@ def main(chosen):
         return 0
     limit_stack()
     prefer_this_python()
+    leave_spin_out()
     tally = run_all(cases, chosen.jobs)
     tell_costs(tally, chosen.slowest)
     print("%d passed, %d failed" % (tally.passed, tally.failed))

@@ -2,8 +2,8 @@
 
 A subject of your own is a line here: its function takes nothing, and yields a `Case` for each test (cases.py).
 """
-from unity_tool.trials import asked_rows, causes, generated, installing, machines, mistakes, refusing, scripts, \
-    sessions, suffixes
+from unity_tool.trials import (asked_rows, causes, editing, generated, installing, machines, mistakes, refusing,
+                               scripts, serving, sessions, spinning, suffixes)
 
 SUBJECTS = [
     ("documents", suffixes.beside_documents),
@@ -17,4 +17,7 @@ SUBJECTS = [
     ("scripts", scripts.cases),
     ("installing", installing.cases),
     ("machines", machines.cases),
+    ("server", serving.cases),
+    ("editing", editing.cases),
+    ("spin", spinning.cases),
 ]

@@ -1,0 +1,1 @@
+"""A second opinion: a program and its claims as Promela, for SPIN."""

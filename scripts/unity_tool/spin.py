@@ -1,0 +1,117 @@
+"""Asks SPIN for a second opinion on the claims of a document.
+
+The program and its claims become a model in Promela, with one process for each instance, so that SPIN's weak fairness
+is that of an execution. What one step can show is asserted in one run over all states, and of each claim of progress
+SPIN looks for a fair run that never comes to its end. A line for each step goes to standard error. Of the first step
+that SPIN finds violated the document goes to standard output, with the run as its schedule, shortened; `watch` has to
+say 10 of it, else the two disagree, which is an error to report. "No violation in the N states there are" is SPIN's
+word, and no proof. It exits with 10 where a step is violated, with 0 where SPIN finds none violated, and with 4 where
+it did not decide all. It wants spin and gcc, and the built program or the page's module.
+"""
+import re
+import sys
+
+from unity_tool import schedules
+from unity_tool.files import read_document, write
+from unity_tool.places import show
+from unity_tool.plan import Plan
+from unity_tool.program import ask, need_answers, unity
+from unity_tool.promela import claims, running
+from unity_tool.promela.asked import Asked
+from unity_tool.trying import number
+from unity_tool.wrong_use import Failure
+
+SECONDS, MEMORY = 60, 2000
+VIOLATED, UNDECIDED, DISAGREE = 10, 4, 1
+
+
+def add_options(parser):
+    parser.add_argument("file", metavar="FILE", help="a document")
+    parser.add_argument("steps", metavar="STEP", nargs="*", help="a step, as NAME or PROGRAM.NAME; else all steps")
+    parser.add_argument("--seconds", type=number, default=SECONDS, metavar="N",
+                        help="the limit of time for all questions, %d where none is given" % SECONDS)
+    parser.add_argument("--memory", type=number, default=MEMORY, metavar="MB",
+                        help="the limit of memory of a search, %d where none is given" % MEMORY)
+    parser.add_argument("--rounds", action="store_true",
+                        help="ask of progress whether it comes within its bound, and not whether it comes at all")
+
+
+def note(says):
+    sys.stderr.write(says + "\n")
+    sys.stderr.flush()
+
+
+def chosen_steps(plan, names):
+    """The steps of these names, or all."""
+    found = [it for it in plan.document.steps() if not names or it.name in names
+             or "%s.%s" % (it.program, it.name) in names]
+    known = {it.name for it in found} | {"%s.%s" % (it.program, it.name) for it in found}
+    for name in names:
+        if name not in known:
+            raise Failure(64, "%s is no step of the document" % name)
+    return found
+
+
+def verdicts(asked, steps, bounds):
+    """What SPIN says of steps of one program, one after the other."""
+    yield from asked.safety(steps)
+    for step in steps:
+        named = "%s.%s" % (step.program, step.name)
+        if claims.is_progress(step) and bounds is None:
+            yield asked.progress(step)
+        elif bounds and named in bounds:
+            yield asked.rounds(step, bounds[named])
+
+
+def bounds_of(text, program):
+    """The bound of each claim of progress of a program, where its steps follow their rules."""
+    answer, _ = unity(["watch"], "%s\nschedule %s : end\n" % (
+        re.sub(r"(?m)^(schedule|certificates)\b[^\0]*", "", text), program))
+    return {name: int(bound) for name, bound in re.findall(r"(?m)^(\S+) (?:leadsto|until|detects) (\d+)$", answer)}
+
+
+def tell_run(asked, verdict, text):
+    """Writes the document with the run of a violation, and says what `watch` says of it; gives the status."""
+    bound = bounds_of(text, asked.model.program).get(verdict.named(), 0)
+    made = asked.document(verdict.found, bound)
+    answer, status = unity(["watch"], made)
+    if status == VIOLATED and verdict.found.cycle is None:
+        # (a search by breadth: no run is shorter)
+        write(made.encode("latin-1"))
+        note(answer.rstrip("\n"))
+        return VIOLATED
+    if status == VIOLATED:
+        note(schedules.shrink(Plan(made)).rstrip("\n"))
+        return VIOLATED
+    write(made.encode("latin-1"))
+    if status == 0:
+        note("SPIN and `watch` disagree: SPIN finds %s violated on this schedule, and `watch` does not. "
+             "This is an error in one of them; please report it with the document." % verdict.named())
+        return DISAGREE
+    note("`watch` does not read the proof on this run: " + answer.split("\n")[0])
+    return VIOLATED
+
+
+def main(chosen):
+    text = read_document(chosen.file)
+    need_answers()
+    if not running.is_there():
+        raise Failure(1, "SPIN is not there: it wants the programs spin and gcc (apt-get install spin gcc)")
+    answer = ask(["check"], text)
+    if answer.status > 1:
+        note(answer.text.decode("latin-1").rstrip("\n"))
+        show(answer.text, chosen.file, text)
+        return answer.status
+    text = text.decode("latin-1")
+    plan, limits, status = Plan(text), running.Limits(chosen.seconds, chosen.memory), 0
+    steps = chosen_steps(plan, chosen.steps)
+    for program in dict.fromkeys(it.program for it in steps):
+        asked = Asked(plan, program, limits)
+        bounds = bounds_of(text, program) if chosen.rounds else None
+        for verdict in verdicts(asked, [it for it in steps if it.program == program], bounds):
+            note(verdict.line())
+            if verdict.found.verdict == running.VIOLATED and status != VIOLATED:
+                status = tell_run(asked, verdict, text)
+            elif verdict.found.verdict == running.UNDECIDED:
+                status = status or UNDECIDED
+    return status

@@ -1,0 +1,203 @@
+"""The language server: a scripted session over all examples, with mistakes, on prefixes as they are typed, and on what
+is no document."""
+import contextlib
+import io
+import json
+import re
+
+from unity_tool import why
+from unity_tool.server.judge import BUDGET
+from unity_tool.trials.asking import unity
+from unity_tool.trials.cases import Case
+from unity_tool.trials.documents import documents
+from unity_tool.trials.editor import Editor, Gone
+
+FOLDERS = ("examples", "examples/mistakes", "examples/causes")
+# so many prefixes of each document are typed
+PREFIXES = 12
+HALF_TYPED = ["", "unity", "unity 1\nprogram", "unity 1\nproof P\n  a(i : 0..", "\x00\x01\udc80", "é 😀 # ü\n" * 3,
+              "unity 1\nprogram P assign s: x := 9" + "9" * 5000 + " end", "(" * 3000, "certificates", "# only"]
+
+
+def uri_of(document):
+    return "file:///" + document.path
+
+
+def lines_of(text):
+    return [len(line.encode("utf-16-le")) // 2 for line in text.split("\n")]
+
+
+def ranges_in(value):
+    """All ranges in an answer."""
+    if isinstance(value, dict):
+        if set(value) == {"start", "end"} and isinstance(value["start"], dict):
+            yield value
+        else:
+            for one in value.values():
+                yield from ranges_in(one)
+    elif isinstance(value, list):
+        for one in value:
+            yield from ranges_in(one)
+
+
+def outside(value, text):
+    """What is wrong with the ranges of an answer: nothing where each lies within the text."""
+    widths = lines_of(text)
+    for one in ranges_in(value):
+        places = [(one[end]["line"], one[end]["character"]) for end in ("start", "end")]
+        if places[0] > places[1] or any(line >= len(widths) or column > widths[line] for line, column in places):
+            return "this range is not within the document: %s" % json.dumps(one)
+    return None
+
+
+class FirstLine(io.StringIO):
+    """Takes one line, and no more."""
+
+    def write(self, text):
+        super().write(text)
+        if "\n" in self.getvalue():
+            raise Gone("one line is enough")
+
+
+def place_by_why(document):
+    """The line, and the column where one is told, that `why` names; nothing where it names none."""
+    text = document.text()
+    came = unity("check" if re.search(rb"(?m)^certificates\b", text) else "prove %d" % BUDGET, text)
+    said = FirstLine()
+    with contextlib.redirect_stdout(said), contextlib.suppress(Gone):
+        why.explain("here", text.decode("latin-1"), came.text.decode("latin-1"))
+    found = re.match(r"here:(\d+)(?::(\d+))?\n", said.getvalue())
+    return came.status, found and (int(found.group(1)), found.group(2) and int(found.group(2)))
+
+
+def place_of(diagnostic, text):
+    """The line and the byte's column of a diagnostic, from 1."""
+    start = diagnostic["range"]["start"]
+    line = text.split("\n")[start["line"]].encode("utf-16-le")[:2 * start["character"]]
+    return start["line"] + 1, len(line.decode("utf-16-le").encode()) + 1
+
+
+def judged(document, editor):
+    """What is wrong with what is found of a document."""
+    text, uri = document.text().decode("utf-8"), uri_of(document)
+    editor.open(uri, text)
+    found = editor.wait(uri)
+    status, place = place_by_why(document)
+    if outside(found, text):
+        return outside(found, text)
+    if status == 0:
+        wrong = [it["message"] for it in found if it["severity"] < 2]
+        return "it is accepted, and this came: %s" % wrong[0] if wrong else None
+    if not found:
+        return "`unity` answers %d, and nothing was found" % status
+    came = place_of(found[0], text)
+    if place and (came[0] != place[0] or place[1] and came[1] != place[1]):
+        return "`why` names %s, and the server %s" % (place, came)
+    marks = editor.of("codeLens", uri)
+    return outside(marks, text)
+
+
+def session(folder):
+    """Opens the documents of a folder, one after the other, in one session."""
+    with Editor() as editor:
+        for document in documents(folder):
+            yield "the server on %s" % document.path, judged(document, editor)
+            editor.close(uri_of(document))
+
+
+def questions(editor, uri, text):
+    """Asks what can be asked of a text; what is wrong with the answers, or nothing."""
+    lines = text.split("\n")
+    at = {"line": max(0, len(lines) - 2), "character": 3}
+    asked = [("documentSymbol", {}), ("foldingRange", {}), ("semanticTokens/full", {}), ("codeLens", {}),
+             ("hover", {"position": at}), ("definition", {"position": at}), ("completion", {"position": at}),
+             ("references", {"position": at}), ("documentHighlight", {"position": at}),
+             ("codeAction", {"range": {"start": at, "end": at}, "context": {}})]
+    for what, more in asked:
+        answer = editor.of(what, uri, **more)
+        if isinstance(answer, dict) and "code" in answer:
+            return "%s: %s" % (what, answer["message"])
+        if outside(answer, text):
+            return "%s: %s" % (what, outside(answer, text))
+    return None
+
+
+def typed(room):
+    """Each document as it is being typed: what is asked of its prefixes is answered."""
+    del room
+    with Editor() as editor:
+        for document in (it for folder in FOLDERS for it in documents(folder)):
+            text = re.split(r"(?m)^certificates\b", document.text().decode("utf-8"))[0]
+            uri, found = uri_of(document), None
+            editor.open(uri, "")
+            for number in range(1, PREFIXES + 1):
+                part = text[:len(text) * number // PREFIXES]
+                editor.change(uri, part)
+                found = found or questions(editor, uri, part)
+            editor.close(uri)
+            yield "the server while %s is typed" % document.path, found
+
+
+def no_document(room):
+    """What is no document, or no message: the server answers and lives."""
+    del room
+    with Editor() as editor:
+        for number, text in enumerate(HALF_TYPED):
+            uri = "file:///half%d" % number
+            editor.open(uri, text)
+            found = editor.wait(uri)
+            yield "the server on half a text, number %d" % number, \
+                outside(found, text.encode("utf-8", "replace").decode()) or (None if found else "nothing was found")
+        for data in (b"Content-Length: x\r\n\r\n", b"Content-Length: 3\r\n\r\n{]}", b"Content-Length: 2\r\n\r\n[]"):
+            editor.write(data)
+        for method, params in (("textDocument/hover", {}), ("textDocument/hover", {"textDocument": 3}),
+                               ("nothing", {}), ("textDocument/rename", {"textDocument": {"uri": "file:///none"}})):
+            answer = editor.ask(method, params)
+            yield "the server on a wrong %s" % method, None if "code" in (answer or {}) else "it has no error"
+        big = "unity 1\nprogram P assign s: x := 1 end\ncertificates\n" + "1: sum 1 * 1 ;\n" * 560000 + "end\n"
+        editor.open("file:///big", big)
+        found = editor.wait("file:///big")
+        yield "the server on 8 MB", None if found and found[0]["code"] == "3" else "it found %s" % found
+        yield "the server after all that", None if editor.ask("shutdown", {}) is None else "it does not shut down"
+
+
+def without_programs(room):
+    """Where neither the built program nor node answers, that is said, and the server lives."""
+    with Editor(PATH=room, UNITY_PAGE="1") as editor:
+        editor.open("file:///a", "unity 1\n")
+        while "file:///a" not in editor.diagnostics:
+            editor.next()
+        said = editor.diagnostics["file:///a"][0]["message"]
+        yield "the server without a program", None if "not built" in said else said
+
+
+def names(room):
+    """Definition, references and rename of a name, over what binds it again."""
+    del room
+    text = "unity 1\nprogram P # é 😀\ndeclare x : 0..3\nassign s: x := 1 if (any x : 0..1 :: x = 0) or x = 2\nend\n" \
+        "proof P\n  safe: defined by text;\n  low: invariant x <= 2 by text;\n  more: invariant x <= 3 by text " \
+        "using low;\nend\n"
+    with Editor() as editor:
+        editor.open("file:///n", text)
+        at = {"line": 2, "character": 8}
+        starts = [it["range"]["start"] for it in editor.of("references", "file:///n", position=at)]
+        places = [(it["line"], it["character"]) for it in starts]
+        wanted = [(2, 8), (3, 10), (3, 47), (7, 17), (8, 18)]
+        yield "references of a variable", None if places == wanted else str(places)
+        found = editor.of("definition", "file:///n", position={"line": 8, "character": 39})
+        yield "the definition of a step", None if found and found["range"]["start"] == {
+            "line": 7, "character": 2} else str(found)
+        edits = editor.of("rename", "file:///n", position={"line": 7, "character": 3}, newName="least")
+        yield "a step renamed", None if len(edits["changes"]["file:///n"]) == 2 else str(edits)
+        for word in ("proof", "9", "x", "more"):
+            answer = editor.of("rename", "file:///n", position=at, newName=word)
+            yield "a variable renamed to %s" % word, None if "code" in answer else str(answer)
+
+
+def cases():
+    for folder, seconds in zip(FOLDERS, (200, 30, 60)):
+        yield Case("the language server over %s" % folder, lambda room, it=folder: session(it), seconds)
+    yield Case("the language server while one types", typed, 30)
+    yield Case("the language server on no documents", no_document, 30)
+    yield Case("the language server without programs", without_programs, 2)
+    yield Case("the language server on names", names, 2)
