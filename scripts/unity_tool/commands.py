@@ -55,7 +55,7 @@ COMMANDS = {
 
 # what works where it is installed; all else is for a checkout of the repository
 FOR_AUTHORS = ["check", "prove", "why", "cost", "watch", "try", "shrink", "trace", "bounds", "all", "unity", "place",
-               "completions", "install"]
+               "completions", "install", "vacuous", "spin", "lsp"]
 
 
 class Parser(argparse.ArgumentParser):
