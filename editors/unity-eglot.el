@@ -56,6 +56,7 @@
 
 (defun unity-act (name)
   "Carry out the action NAME of the server; its text comes as an edit, and its word is said."
+  (eglot--signal-textDocument/didChange)
   (let* ((eglot-confirm-server-initiated-edits nil)
          (place (eglot--pos-to-lsp-position))
          (words (list :command (concat "unity." name)

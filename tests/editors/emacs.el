@@ -9,6 +9,8 @@
 
 (defun seen-wait (before tick)
   "Wait until the server has judged the document, where TICK tells that it was changed since BEFORE."
+  ;; (in a batch no timer of idleness tells the server of changes)
+  (when (and (derived-mode-p 'unity-mode) (eglot-current-server)) (eglot--signal-textDocument/didChange))
   (let ((end (+ (float-time) 300)))
     (while (and (< (float-time) end)
                 (not (or (> unity-judged before)
