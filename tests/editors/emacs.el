@@ -2,10 +2,16 @@
 
 ;; The file LINES_OF has a form a line; the file SEEN gets, for each, a line with the form and then what it said.
 ;; After a form the server has judged the document before the next one is evaluated.
+;;
+;; Nothing is compiled on the way: that `message' is another function here would have Emacs compile a stub of it into
+;; an empty HOME.  The server gets as long as it takes to start, where the machine is loaded.
 
+(setq native-comp-enable-subr-trampolines nil comp-enable-subr-trampolines nil
+      native-comp-jit-compilation nil native-comp-deferred-compilation nil)
 (require 'package)
 (package-initialize)
-(load (expand-file-name "unity-eglot.el" (getenv "EDITORS")))
+(load (expand-file-name "unity-eglot.el" (getenv "EDITORS")) nil t)
+(setq eglot-sync-connect t eglot-connect-timeout 300)
 
 (defun seen-wait (before tick)
   "Wait until the server has judged the document, where TICK tells that it was changed since BEFORE."

@@ -8,6 +8,8 @@ from unity_tool.repository import TOP
 from unity_tool.trials.asking import ask, read
 from unity_tool.trials.cases import Case, faults, other_status
 
+# an editor that is not through after so many seconds is ended, and the test fails
+LONGEST = 1800
 BLOCK = re.compile(r"(?ms)^```(vim|elisp|text)\n(.*?)^```$")
 # the language of what is typed, and the words that start the editor
 EDITORS = {"vim": ["nvim", "--headless", "-u", "NONE", "-c", "luafile tests/editors/neovim.lua"],
@@ -63,8 +65,8 @@ def replayed(language, room):
         file.write("\n".join(line for typed, _ in blocks for line in typed) + "\n")
     program, *words = EDITORS[language]
     words = [it.replace("tests/", os.path.join(TOP, "tests") + os.sep) for it in words]
-    came = ask([program, *words], cwd=room, env={**os.environ, "EDITORS": os.path.join(TOP, "editors"),
-                                                 "LINES_OF": lines, "SEEN": seen, "HOME": room})
+    came = ask([program, *words], cwd=room, timeout=LONGEST, env={
+        **os.environ, "EDITORS": os.path.join(TOP, "editors"), "LINES_OF": lines, "SEEN": seen, "HOME": room})
     if not os.path.exists(seen):
         yield "the chapter in %s" % program, faults(other_status(0, came), "nothing was seen")
         return
@@ -74,9 +76,8 @@ def replayed(language, room):
         after = blocks[number + 1][0][0] if number + 1 < len(blocks) else None
         part, rest = rest.split("\n%s\n" % after, 1) if after and "\n%s\n" % after in rest else (rest, rest)
         yield "the chapter in %s: %s" % (program, typed[-1]), missing(wanted, part.splitlines())
-    if language == "vim":
-        proved = ask(["bash", "scripts/check.sh", os.path.join(room, "race.unity")])
-        yield "the document of the chapter in %s" % program, other_status(0, proved)
+    proved = ask(["bash", "scripts/check.sh", os.path.join(room, "race.unity")])
+    yield "the document of the chapter in %s" % program, other_status(0, proved)
 
 
 def extension(room):
@@ -91,3 +92,4 @@ def extension(room):
 def cases():
     yield Case("the extension for Visual Studio Code", extension, 10)
     yield Case("the chapter on editors, in nvim", lambda room: replayed("vim", room), 20)
+    yield Case("the chapter on editors, in emacs", lambda room: replayed("elisp", room), 20)
