@@ -9,7 +9,7 @@ import sys
 
 from unity_tool.repository import UNITY
 from unity_tool.trials.pool import run_all
-from unity_tool.trials.subjects import SUBJECTS
+from unity_tool.trials.subjects import ASKED_ALONE, SUBJECTS
 
 STACK = 4 << 20
 
@@ -24,7 +24,8 @@ def add_options(parser):
 
 
 def chosen_cases(chosen):
-    cases = [case for name, make in SUBJECTS if chosen.subject in (None, name) for case in make()]
+    taken = [chosen.subject] if chosen.subject else [name for name, _ in SUBJECTS if name not in ASKED_ALONE]
+    cases = [case for name, make in SUBJECTS if name in taken for case in make()]
     return [case for case in cases if chosen.only is None or chosen.only in case.name]
 
 

@@ -78,9 +78,13 @@ def asked_by_why(room):
     yield "what SPIN says to `why`", None if "SPIN" in last else last
 
 
-def cases():
+def documents_cases():
+    """SPIN on each document: an hour of processor, so these are run where they are asked for alone."""
     for folder in FOLDERS:
         for document in documents(folder):
             yield Case("SPIN on %s" % document.path, lambda room, it=document: opinion(it), 10)
+
+
+def cases():
     yield Case("SPIN on a lock that starves", starves, 10)
     yield Case("SPIN for `why`", asked_by_why, 5)

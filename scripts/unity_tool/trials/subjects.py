@@ -20,4 +20,7 @@ SUBJECTS = [
     ("server", serving.cases),
     ("editing", editing.cases),
     ("spin", spinning.cases),
+    ("spin-documents", spinning.documents_cases),
 ]
+# what takes long is run with `--subject NAME` alone
+ASKED_ALONE = ("spin-documents",)
