@@ -53,6 +53,16 @@ def prove(latin, _):
     return answer, "the certificates were found"
 
 
+def repair(latin, chosen):
+    """Proves with what fits of the certificates, and without them where they can't be read."""
+    answer, status = unity(["prove", BUDGET], latin)
+    if status and answer.startswith("bad"):
+        return prove(drop(latin, chosen)[0], chosen)
+    if status:
+        raise Outcome(answer.strip() or "`unity` gave no answer")
+    return answer, "the certificates were found"
+
+
 def drop(latin, _):
     return re.sub(r"(?m)^certificates\b[^\0]*", "", latin), "the certificates are dropped"
 
@@ -177,5 +187,5 @@ def ask_spin(latin, chosen):
     raise Outcome(shown(notes).strip() or "SPIN said nothing")
 
 
-ACTIONS = {"unity.prove": prove, "unity.repair": prove, "unity.drop": drop, "unity.using": unneeded,
+ACTIONS = {"unity.prove": prove, "unity.repair": repair, "unity.drop": drop, "unity.using": unneeded,
            "unity.start": refuting_state, "unity.run": find_run, "unity.spin": ask_spin}

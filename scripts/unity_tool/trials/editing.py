@@ -84,7 +84,8 @@ def extension(room):
     """The extension for Visual Studio Code, with a stand-in for the editor, where node is there."""
     del room
     if shutil.which("node"):
-        came = ask(["node", "tests/editors/vscode.js", os.path.join(TOP, "examples", "race.unity"), "unity.run"])
+        came = ask(["node", "tests/editors/vscode.js", os.path.join(TOP, "examples", "race.unity"), "unity.run"],
+                   timeout=LONGEST)
         wanted = ["28: refuted Race.claims obligation 18", "Race Race", "1], look[0], take[1], take[0]"]
         yield "the extension for Visual Studio Code", missing(wanted, came.text.decode().splitlines())
 

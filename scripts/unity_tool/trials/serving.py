@@ -3,6 +3,7 @@ is no document."""
 import contextlib
 import io
 import json
+import os
 import re
 
 from unity_tool import why
@@ -194,10 +195,79 @@ def names(room):
             yield "a variable renamed to %s" % word, None if "code" in answer else str(answer)
 
 
+SPARE = """unity 1
+program P
+declare
+  x : 0..3
+initially
+  x = 0
+assign
+  s: x := 1 if x = 0
+end
+proof P
+  safe: defined by text;
+  low: invariant x <= 2 by text;
+  more: invariant x <= 3 by text using low;
+end
+"""
+
+
+def changed(text, edit):
+    """A text of ASCII after an edit of the server."""
+    starts = [0]
+    for line in text.split("\n"):
+        starts.append(starts[-1] + len(line) + 1)
+    at = [starts[edit["range"][end]["line"]] + edit["range"][end]["character"] for end in ("start", "end")]
+    return text[:at[0]] + edit["newText"] + text[at[1]:]
+
+
+def acted(editor, uri, text, action, line=0):
+    """The text that an action makes, and what it says."""
+    editor.open(uri, text)
+    editor.wait(uri)
+    before = len(editor.told)
+    answer = editor.ask("workspace/executeCommand", {
+        "command": "unity." + action, "arguments": [uri, {"line": line, "character": 3}]})
+    edits = [it["params"]["edit"]["changes"][uri] for it in editor.told[before:]
+             if it["method"] == "workspace/applyEdit"]
+    return changed(text, edits[0][0]) if edits else None, (answer or {}).get("says") or str(answer)
+
+
+def actions(room):
+    """Each action on certificates and on `using` once; the chapter on editors and the extension show a run."""
+    del room
+    with Editor() as editor:
+        proved, says = acted(editor, "file:///prove", SPARE, "prove")
+        yield "the action that proves", None if proved and unity("check", proved.encode()).status == 0 else says
+        foreign = SPARE.replace("x <= 2", "x <= 1") + "certificates\n1: sum 1 * 1 ;\n9: sum 1 * 1 ;\nend\n"
+        made, says = acted(editor, "file:///repair", foreign, "repair")
+        yield "the action that repairs", None if made and unity("check", made.encode()).status == 0 else says
+        made, says = acted(editor, "file:///drop", proved or "", "drop")
+        yield "the action that drops", None if made and made.strip() == SPARE.strip() else says
+        made, says = acted(editor, "file:///using", SPARE, "using")
+        yield "the action on `using`", None if made == SPARE.replace(" using low", "") else says
+
+
+def killed(room):
+    """Where node is killed, that is said, and the server lives."""
+    node = os.path.join(room, "node")
+    with open(node, "w", encoding="utf-8") as file:
+        file.write("#!/bin/sh\nkill -9 $$\n")
+    os.chmod(node, 0o755)
+    with Editor(PATH=room + os.pathsep + os.environ["PATH"], UNITY_PAGE="1") as editor:
+        editor.open("file:///k", SPARE)
+        found = editor.wait("file:///k")
+        said = found[0]["message"] if found else "nothing was found"
+        yield "the server where node is killed", None if "gave no answer" in said else said
+        yield "the server after that", None if editor.ask("shutdown", {}) is None else "it does not shut down"
+
+
 def cases():
     for folder, seconds in zip(FOLDERS, (200, 30, 60)):
         yield Case("the language server over %s" % folder, lambda room, it=folder: session(it), seconds)
     yield Case("the language server while one types", typed, 30)
     yield Case("the language server on no documents", no_document, 30)
     yield Case("the language server without programs", without_programs, 2)
+    yield Case("the language server's actions", actions, 10)
+    yield Case("the language server where node is killed", killed, 2)
     yield Case("the language server on names", names, 2)
