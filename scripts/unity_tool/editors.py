@@ -141,8 +141,8 @@ def add_options(parser):
 
 
 # what is written, and how it is made
-WRITTEN = (("unity.vim", vim), ("unity.tmLanguage.json", textmate), ("unity.xml", kate), ("words.json", words),
-           ("vscode/syntaxes/unity.tmLanguage.json", textmate))
+WRITTEN = (("unity.vim", vim), ("unity.tmLanguage.json", textmate), ("unity.xml", kate), ("unity-mode.el", emacs),
+           ("words.json", words), ("vscode/syntaxes/unity.tmLanguage.json", textmate))
 
 
 def main(chosen):

@@ -24,7 +24,7 @@ def chapter():
 
 def typed_in(language):
     """What the chapter types in this language, with the lines that are seen after it."""
-    found = []
+    found, last_kind = [], ""
     for kind, text in BLOCK.findall(chapter()):
         if kind == language:
             found.append((text.splitlines(), []))
