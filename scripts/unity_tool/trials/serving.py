@@ -262,10 +262,14 @@ def killed(room):
         yield "the server after that", None if editor.ask("shutdown", {}) is None else "it does not shut down"
 
 
-def cases():
+def sessions_cases():
+    """Each document in an editor, whole and as it is typed: long, so these are run where they are asked for alone."""
     for folder, seconds in zip(FOLDERS, (200, 30, 60)):
         yield Case("the language server over %s" % folder, lambda room, it=folder: session(it), seconds)
     yield Case("the language server while one types", typed, 30)
+
+
+def cases():
     yield Case("the language server on no documents", no_document, 30)
     yield Case("the language server without programs", without_programs, 2)
     yield Case("the language server's actions", actions, 10)

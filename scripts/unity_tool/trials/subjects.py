@@ -18,9 +18,10 @@ SUBJECTS = [
     ("installing", installing.cases),
     ("machines", machines.cases),
     ("server", serving.cases),
+    ("server-sessions", serving.sessions_cases),
     ("editing", editing.cases),
     ("spin", spinning.cases),
     ("spin-documents", spinning.documents_cases),
 ]
 # what takes long is run with `--subject NAME` alone
-ASKED_ALONE = ("spin-documents",)
+ASKED_ALONE = ("server-sessions", "spin-documents")
