@@ -43,6 +43,8 @@ def contrasts(tried, what):
 
 def focus(tried, theme):
     """Each part that the key Tab comes to shows it."""
+    # (a page that no key came to yet shows no focus)
+    tried.browser.press_tab()
     tried.browser.value("get('skip').focus(); 0")
     dull = set()
     for _ in range(45):
