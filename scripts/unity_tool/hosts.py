@@ -29,8 +29,9 @@ def answers_of(folder, names, hosts, jobs, command):
         raise Failure(64, "there is no GNU parallel, which --hosts needs")
     waiting = {os.path.join(".", os.path.relpath(name, folder)): name for name in names}
     given = b"".join(os.fsencode(name) + b"\0" for name in waiting)
+    # (without SHELL it takes what called it, this Python, for its shell)
     with subprocess.Popen(words_of(folder, hosts, jobs, command), cwd=folder, stdin=subprocess.PIPE,
-                          stdout=subprocess.PIPE) as process:
+                          stdout=subprocess.PIPE, env={"SHELL": "/bin/sh", **os.environ}) as process:
         try:
             process.stdin.write(given)
             process.stdin.close()
