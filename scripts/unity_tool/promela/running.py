@@ -89,7 +89,10 @@ def judged(told, formula, room, limits):
     seen = int(states.group(1)) if states else 0
     if errors and errors.group(1) != "0":
         replayed = run(["./pan", "-r", *(["-N", formula] if formula else [])], room, limits)
-        return trail(replayed, seen) if replayed else Found(UNDECIDED, seen, why=out_of_time(limits))
+        found = trail(replayed, seen) if replayed else Found(UNDECIDED, seen, why=out_of_time(limits))
+        if found.verdict == VIOLATED and formula is None and found.claim is None:
+            return Found(UNDECIDED, seen, why="SPIN stopped where no claim is broken")
+        return found
     if "out of memory" in told or "memory limit" in told or "MEMLIM" in told:
         return Found(UNDECIDED, seen, why="the limit of %d MB was reached" % limits.memory)
     if "max search depth too small" in told:
