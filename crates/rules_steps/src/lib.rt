@@ -13,3 +13,4 @@ mod using;
 pub use around::Around;
 pub use kinds::has_defined;
 pub use ruling::step_rule;
+pub use using::find_record;

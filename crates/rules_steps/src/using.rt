@@ -13,8 +13,8 @@ use safety_rules::RuleError;
 use std::alloc::Global;
 use unity_base::Seq;
 
-// The record of a program's step.
-pub(crate) fn find_record(program: u32, step: u32, book: &[Record]) -> Option<&Record>
+/// The first record of a program's step, where there is one.
+pub fn find_record(program: u32, step: u32, book: &[Record]) -> Option<&Record>
     ensures { option_copied result ≡ find (λ a. nat_eq a.program program && nat_eq a.name step) book.now }
 {
     for record in book {

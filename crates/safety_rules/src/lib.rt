@@ -27,6 +27,7 @@ pub use ensuring::ensures_rule;
 pub use fixing::fixed_rule;
 pub use gathering::implied;
 pub use instancing::{instance, instance_in};
+pub use naming::{may_mean, names_some};
 pub use pairs::{are_unless, pair_rule};
 pub use places::{Derived, Place, RuleError};
 pub use premises::{both, either};

@@ -35,8 +35,8 @@ fn agree(args: &[Arg], indices: &[i64]) -> bool
     true
 }
 
-// Whether this statement may be meant.
-pub(crate) fn may_mean(h: &Helper, s: &CStmt) -> bool
+/// Whether a helper may mean this statement: the same label, and indices that agree where they are numbers.
+pub fn may_mean(h: &Helper, s: &CStmt) -> bool
     ensures { result ≡ may_mean h.now s.now }
 {
     s.label == h.label && agree(h.args.as_slice(), s.indices.as_slice())
@@ -49,8 +49,8 @@ fn has_place(h: &Helper, s: &CStmt) -> bool
     s.label == h.label && s.indices.len() == h.args.len()
 }
 
-// Whether an index names a parameter.
-pub(crate) fn names_some(args: &[Arg]) -> bool
+/// Whether an index names a parameter.
+pub fn names_some(args: &[Arg]) -> bool
     ensures { result ≡ table.names_some args.now }
 {
     for arg in args {

@@ -23,8 +23,8 @@ pub fn put_number<K: Sink>(text: &mut Buffer, out: &mut K, number: u64)
     }
 }
 
-// Puts a number, with `-` before it if it is negative.
-fn put_signed<K: Sink>(text: &mut Buffer, out: &mut K, number: i64)
+/// Puts a number, with `-` before it if it is negative.
+pub fn put_signed<K: Sink>(text: &mut Buffer, out: &mut K, number: i64)
     ensures { IsPut (K.written out.old) (K.written out.new) (K.faults out.old) (K.faults out.new) text.old text.new
         (signed_decimal number) }
 {
@@ -74,8 +74,8 @@ fn put_indices<K: Sink>(text: &mut Buffer, out: &mut K, indices: &[i64])
     }
 }
 
-// Puts the name of an instance.
-fn put_instance<K: Sink>(text: &mut Buffer, out: &mut K, words: &[Seq<u8>], statement: &CStmt)
+/// Puts the name of an instance: its label, and its indices in square brackets.
+pub fn put_instance<K: Sink>(text: &mut Buffer, out: &mut K, words: &[Seq<u8>], statement: &CStmt)
     ensures { IsPut (K.written out.old) (K.written out.new) (K.faults out.old) (K.faults out.new) text.old text.new
         (line.instance_text words.now statement.now) }
 {
@@ -158,8 +158,8 @@ fn put_value<K: Sink>(text: &mut Buffer, out: &mut K, words: &[Seq<u8>], print: 
     }
 }
 
-// Puts the index of an array's slot in square brackets.
-fn put_index<K: Sink>(text: &mut Buffer, out: &mut K, index: Option<i64>)
+/// Puts the index of an array's slot in square brackets, and nothing where there is none.
+pub fn put_index<K: Sink>(text: &mut Buffer, out: &mut K, index: Option<i64>)
     ensures { IsPut (K.written out.old) (K.written out.new) (K.faults out.old) (K.faults out.new) text.old text.new
         (line.index_text index) }
 {
