@@ -66,7 +66,8 @@ def search(model, formula, processes, limits):
         built = run(["gcc", *flags, "-o", "pan", "pan.c"], room, limits)
         if not os.path.exists(os.path.join(room, "pan")):
             return Found(UNDECIDED, why=out_of_time(limits) if limits.left() <= 0 else said_by(made, built))
-        words = ["-a", "-f", "-N", formula, "-m%d" % DEPTH] if formula else []
+        # (-E: a choice of a start at which the program may not begin ends there, and is no fault)
+        words = ["-a", "-f", "-N", formula, "-m%d" % DEPTH] if formula else ["-E"]
         told = run(["./pan", *words], room, limits)
         return judged(told, formula, room, limits)
 
