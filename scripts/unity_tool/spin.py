@@ -5,8 +5,9 @@ is that of an execution. What one step can show is asserted in one run over all 
 SPIN looks for a fair run that never comes to its end. A line for each step goes to standard error. Of the first step
 that SPIN finds violated the document goes to standard output, with the run as its schedule, shortened; `watch` has to
 say 10 of it, else the two disagree, which is an error to report. "No violation in the N states there are" is SPIN's
-word, and no proof. It exits with 10 where a step is violated, with 0 where SPIN finds none violated, and with 4 where
-it did not decide all. It wants spin and gcc, and the built program or the page's module.
+word, and no proof. Runs begin at each initial state; where there are too many of these to go through, at that of the
+document's own start alone, and then it says so. It exits with 10 where a step is violated, with 0 where SPIN finds none
+violated, and with 4 where it did not decide all. It wants spin and gcc, and the built program or the page's module.
 """
 import re
 import sys
@@ -18,6 +19,7 @@ from unity_tool.plan import Plan
 from unity_tool.program import ask, need_answers, unity
 from unity_tool.promela import claims, running
 from unity_tool.promela.asked import Asked
+from unity_tool.promela.formulas import TooLarge
 from unity_tool.trying import number
 from unity_tool.wrong_use import Failure
 
@@ -34,6 +36,7 @@ def add_options(parser):
                         help="the limit of memory of a search, %d where none is given" % MEMORY)
     parser.add_argument("--rounds", action="store_true",
                         help="ask of progress whether it comes within its bound, and not whether it comes at all")
+    parser.add_argument("--start", action="store_true", help="begin at the document's own start alone")
 
 
 def note(says):
@@ -61,6 +64,20 @@ def verdicts(asked, steps, bounds):
             yield asked.progress(step)
         elif bounds and named in bounds:
             yield asked.rounds(step, bounds[named])
+
+
+def all_verdicts(plan, steps, limits, chosen):
+    """What SPIN says of steps, program by program, each with the model that was asked. Of a program that is too large
+    for one that is noted, and there is no model."""
+    for program in dict.fromkeys(it.program for it in steps):
+        mine = [it for it in steps if it.program == program]
+        bounds = bounds_of(plan.document.text, program) if chosen.rounds else None
+        try:
+            asked = Asked(plan, program, limits, chosen.start)
+            yield from ((asked, it) for it in verdicts(asked, mine, bounds))
+        except TooLarge as fault:
+            note("%s: not decided: %s" % (program, fault.says))
+            yield None, None
 
 
 def bounds_of(text, program):
@@ -104,14 +121,11 @@ def main(chosen):
         return answer.status
     text = text.decode("latin-1")
     plan, limits, status = Plan(text), running.Limits(chosen.seconds, chosen.memory), 0
-    steps = chosen_steps(plan, chosen.steps)
-    for program in dict.fromkeys(it.program for it in steps):
-        asked = Asked(plan, program, limits)
-        bounds = bounds_of(text, program) if chosen.rounds else None
-        for verdict in verdicts(asked, [it for it in steps if it.program == program], bounds):
+    for asked, verdict in all_verdicts(plan, chosen_steps(plan, chosen.steps), limits, chosen):
+        if verdict:
             note(verdict.line())
-            if verdict.found.verdict == running.VIOLATED and status != VIOLATED:
-                status = tell_run(asked, verdict, text)
-            elif verdict.found.verdict == running.UNDECIDED:
-                status = status or UNDECIDED
+        if verdict and verdict.found.verdict == running.VIOLATED and status != VIOLATED:
+            status = tell_run(asked, verdict, text)
+        elif verdict is None or verdict.found.verdict == running.UNDECIDED:
+            status = status or UNDECIDED
     return status

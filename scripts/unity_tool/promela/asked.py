@@ -4,19 +4,24 @@ import re
 from unity_tool.plan import Plan, programs_in
 from unity_tool.promela import claims
 from unity_tool.promela.model import Model
-from unity_tool.promela.running import VIOLATED, search
+from unity_tool.promela.running import HOLDS, VIOLATED, search
+from unity_tool.promela.start import Start
 from unity_tool.program import unity
 from unity_tool.schedules import Scheduled
 
 # a cycle is repeated for one round more than the bound, and no longer than this
 MOST_CHOICES = 50000
+# where there are more ways to begin than these, runs begin at the document's own start alone
+MOST_STARTS = 20000000
+# so many cases are asked for in one search
+MOST_CASES = 250
 
 
 class Verdict:
-    """What is said of a step, with the run that violates it."""
+    """What is said of a step, with the run that violates it; `where` names the states that were looked at."""
 
-    def __init__(self, step, found, asked=""):
-        self.step, self.found, self.asked = step, found, asked
+    def __init__(self, step, found, where, asked=""):
+        self.step, self.found, self.where, self.asked = step, found, where, asked
 
     def named(self):
         return "%s.%s" % (self.step.program, self.step.name)
@@ -29,59 +34,88 @@ class Verdict:
                 found.cycle, len(found.choices) - found.cycle)
         elif found.verdict == VIOLATED:
             says = "violated after %d choices" % len(found.choices)
-        elif found.verdict == "holds":
-            says = "SPIN finds no violation in the %d states there are; that is its word, and no proof" % found.states
+        elif found.verdict == HOLDS:
+            says = "SPIN finds no violation in the %d states %s; that is its word, and no proof" % (
+                found.states, self.where)
         else:
             says = "not decided, %d states seen: %s" % (found.states, found.why)
         return "%s %s%s: %s" % (self.named(), self.step.kind, self.asked, says)
 
 
 class Asked:
-    """A program's claims, asked one after the other within limits."""
+    """A program's claims, asked one after the other within limits. Runs begin at each initial state; or at that of the
+    document's own start, where there are too many or where this is asked for."""
 
-    def __init__(self, plan, program, limits):
+    def __init__(self, plan, program, limits, at_start=False):
         self.plan, self.limits = plan, limits
-        self.model = Model(plan.document, program)
+        self.model, self.told = Model(plan.document, program), None
+        self.where = "there are"
+        if at_start or Start(self.model).choices() > MOST_STARTS:
+            self.told = self.start()
+            self.where = "that runs from the document's own start come to"
 
-    def search(self, monitor, formula=None):
-        formulas = [formula] if formula else []
-        text = self.model.text(monitor, formulas)
-        return search(text, formula and formula[0], len(self.model.instances), self.limits)
+    def start(self):
+        """The slots at the document's own start, by their names in the model."""
+        answer, status = unity(["replay"], Scheduled(self.plan, self.model.program).text([]))
+        lines = answer.split("\n")
+        shown = dict(word.split("=", 1) for word in lines[1].split(" ")[1:]) if status == 0 else {}
+        found = {}
+        for variable, index in self.model.slots():
+            name = named(variable, index)
+            if name in shown:
+                found[self.model.slot(variable, index)] = self.model.number(variable, shown[name])
+        return found
+
+    def search(self, monitor, cases=()):
+        text = self.model.text(monitor, claims.never(cases) if cases else "", self.told)
+        return search(text, bool(cases), len(self.model.instances), self.limits)
+
+    def verdict(self, step, found, asked=""):
+        return Verdict(step, found, self.where, asked)
+
+    @staticmethod
+    def each(searches):
+        """What several searches say together: the first that finds no proof, or all their states."""
+        states = 0
+        for found in searches:
+            states += found.states
+            if found.verdict != HOLDS:
+                return found
+        return found._replace(states=states)
 
     def safety(self, steps):
         """What one step shows: all claims in one run, and the others again where one is violated."""
         left = [it for it in steps if it.kind in claims.SAFETY]
         while left:
             cases = list(claims.cases_of(self.model, left))
-            found = self.search(claims.Monitor(self.model, cases))
+            found, broken = self.first_broken(cases)
             if found.verdict != VIOLATED:
-                yield from (Verdict(it, found, by_step(it)) for it in left)
+                yield from (self.verdict(it, found, by_step(it)) for it in left)
                 return
-            broken = cases[found.claim].step
-            yield Verdict(broken, found, by_step(broken))
+            yield self.verdict(broken, found, by_step(broken))
             left = [it for it in left if it is not broken]
+
+    def first_broken(self, cases):
+        """What a search for violations of cases says, so many at a time, and the step of that which is violated."""
+        for at in range(0, len(cases), MOST_CASES):
+            some = cases[at:at + MOST_CASES]
+            found = self.search(claims.Monitor(self.model, some))
+            if found.verdict != HOLDS:
+                break
+        return found, some[found.claim].step if found.verdict == VIOLATED else None
 
     def progress(self, step):
         """Whether a claim of progress comes to its end on each fair run."""
-        last = None
-        for case in claims.cases_of(self.model, [step]):
-            found = self.search(claims.Monitor(self.model, []), ("comes", claims.formula_of(case)))
-            last = found if last is None or found.verdict != "holds" else last._replace(
-                states=last.states + found.states)
-            if found.verdict != "holds":
-                break
-        return Verdict(step, last, ", that it comes")
+        cases = list(claims.cases_of(self.model, [step]))
+        found = self.each(self.search(claims.Monitor(self.model, []), cases[at:at + MOST_CASES])
+                          for at in range(0, len(cases), MOST_CASES))
+        return self.verdict(step, found, ", that it comes")
 
     def rounds(self, step, bound):
         """Whether a claim of progress comes to its end within its bound: each run, counted in rounds."""
-        last = None
-        for case in claims.cases_of(self.model, [step]):
-            found = self.search(claims.Rounds(case, bound, len(self.model.instances)))
-            last = found if last is None or found.verdict != "holds" else last._replace(
-                states=last.states + found.states)
-            if found.verdict != "holds":
-                break
-        return Verdict(step, last, " %d" % bound)
+        found = self.each(self.search(claims.Rounds(case, bound, len(self.model.instances)))
+                          for case in claims.cases_of(self.model, [step]))
+        return self.verdict(step, found, " %d" % bound)
 
     def reached(self, values):
         """Whether a run comes to a state with these values, as a document has them."""
@@ -91,7 +125,7 @@ class Asked:
             variable = self.model.variables.get(word)
             if variable:
                 slot = self.model.slot(variable, int(index.rstrip("]")) if index else None)
-                facts.append("%s == %s" % (slot, self.model.words.get(value, value)))
+                facts.append("%s == %d" % (slot, self.model.number(variable, value)))
         return self.search(claims.Reached(" && ".join(facts) or "true"))
 
     # runs as documents
@@ -115,11 +149,13 @@ class Asked:
 
     def start_of(self, found):
         """The initial state of a run: each slot with its value."""
-        each = {}
-        for variable, index in self.model.slots():
-            name = variable.name + ("" if index is None else "[%d]" % index)
-            each[name] = self.model.shown(variable, found.initial[name])
-        return each
+        return {named(variable, index): self.model.shown(variable, found.initial[named(variable, index)])
+                for variable, index in self.model.slots()}
+
+
+def named(variable, index):
+    """A slot as a document names it."""
+    return variable.name + ("" if index is None else "[%d]" % index)
 
 
 def by_step(step):
@@ -143,4 +179,3 @@ def with_section(text, start, values):
     assign = re.compile(r"\bassign\b").search(plain, start).start()
     old = re.compile(r"\bstart\b").search(plain, start, assign)
     return "%sstart\n  %s\n%s" % (text[:old.start() if old else assign], values, text[assign:])
-

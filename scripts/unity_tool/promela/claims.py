@@ -1,12 +1,13 @@
-"""The claims of a proof for SPIN: what one step shows is asserted in one run, and progress is a formula for each
-case."""
+"""The claims of a proof for SPIN: what one step shows is asserted in one run, and what progress rules out is a run that
+must never be."""
 from typing import NamedTuple, Optional
 
 from unity_tool.formulas import value_of
-from unity_tool.promela.model import numbers
+from unity_tool.promela.ranges import numbers
 
 SAFETY = ("defined", "invariant", "unless", "stable", "ensures", "constant", "fixed", "until", "detects")
 PROGRESS = ("ensures", "leadsto", "until", "detects")
+NOTHING_BEFORE = {"undefined": [], "step": []}
 
 
 class Case(NamedTuple):
@@ -48,23 +49,27 @@ class Monitor:
     def __init__(self, model, cases):
         self.names, self.cases = [name for name, _ in model.instances], cases
 
-    def declared(self):
-        return ["bool m%d;" % at for at in range(len(self.cases))]
+    @staticmethod
+    def declared():
+        return []
+
+    def noted(self):
+        """What is noted of a state before a step."""
+        return ["m%d" % at for at, it in enumerate(self.cases) if held_before(it)]
 
     def begin(self):
-        return self.states()
+        return self.states() + ending()
 
     def before(self):
         undefined = [broken(undefined_before(it), at) for at, it in enumerate(self.cases) if undefined_before(it)]
         held = ["m%d = %s;" % (at, held_before(it)) for at, it in enumerate(self.cases) if held_before(it)]
-        tidy = ["m%d = false;" % at for at, it in enumerate(self.cases) if held_before(it)]
-        return {"undefined": undefined, "step": held, "tidy": tidy}
+        return {"undefined": undefined and undefined + ending(), "step": held}
 
-    def after(self, number):
+    def after(self):
         found = [broken(after_step(it, at), at) for at, it in enumerate(self.cases) if after_step(it, at)]
-        helps = [broken("m%d && !%s" % (at, it.right), at) for at, it in enumerate(self.cases)
-                 if it.helper == self.names[number]]
-        return self.states() + found + helps
+        helps = [broken("n == %d && m%d && !%s" % (self.names.index(it.helper), at, it.right), at)
+                 for at, it in enumerate(self.cases) if it.helper in self.names]
+        return self.states() + found + helps + ending()
 
     def states(self):
         """What each state has to meet."""
@@ -104,13 +109,28 @@ def after_step(case, at):
 
 
 def broken(when, at):
-    return 'if :: %s -> printf("@! %d\\n"); assert(false) :: else fi;' % (when, at)
+    """Notes the number of a claim that is violated."""
+    return "bad = ((%s) -> %d : bad);" % (when, at + 1)
 
 
-def formula_of(case):
-    """The formula of a claim of progress: what begins has to come to the end."""
-    left, right = (case.right, case.left) if case.step.kind == "detects" else (case.left, case.right)
-    return "[] ((ready && %s) -> <> %s)" % (left, right)
+def ending():
+    """Ends the run where a claim is violated."""
+    return ['if :: bad > 0 -> printf("@! %d\\n", bad - 1); assert(false) :: else fi;']
+
+
+def sides_of(case):
+    """From where to where a claim of progress leads."""
+    return (case.right, case.left) if case.step.kind == "detects" else (case.left, case.right)
+
+
+def never(cases):
+    """What progress rules out: a run with one of the left sides, and then never the right side."""
+    begins, waits = [], []
+    for at, case in enumerate(cases):
+        left, right = sides_of(case)
+        begins.append("  :: (ready && %s && !%s) -> goto accept_%d\n" % (left, right, at))
+        waits.append("accept_%d: do :: !%s od;\n" % (at, right))
+    return "never {\n  do\n%s  :: true\n  od;\n%s}\n" % ("".join(begins), "".join(waits))
 
 
 class Reached:
@@ -119,17 +139,22 @@ class Reached:
     def __init__(self, formula):
         self.formula = formula
 
-    def declared(self):
+    @staticmethod
+    def declared():
+        return []
+
+    @staticmethod
+    def noted():
         return []
 
     def begin(self):
-        return [broken(self.formula, 0)]
+        return [broken(self.formula, 0), *ending()]
 
     def before(self):
-        return {"undefined": [], "step": [], "tidy": []}
+        return NOTHING_BEFORE
 
-    def after(self, _):
-        return [broken(self.formula, 0)]
+    def after(self):
+        return self.begin()
 
 
 class Rounds:
@@ -137,26 +162,26 @@ class Rounds:
     its bound and the right side has not come. A round is over when each instance was chosen."""
 
     def __init__(self, case, bound, count):
-        self.case, self.bound, self.count = case, bound, count
-        self.left, self.right = (case.right, case.left) if case.step.kind == "detects" else (case.left, case.right)
+        self.bound, self.count = bound, count
+        self.left, self.right = sides_of(case)
+        self.clean = " ".join("was[%d] = false;" % at for at in range(count))
 
     def declared(self):
         return ["bool waits;", "int rounds;", "int chosen;", "bool was[%d];" % self.count]
 
+    @staticmethod
+    def noted():
+        return []
+
     def begin(self):
-        return self.look()
+        return ["if :: %s -> waits = false; rounds = 0; chosen = 0; %s" % (self.right, self.clean),
+                ":: else -> if :: !waits && %s -> waits = true :: else fi fi;" % self.left,
+                broken("waits && rounds >= %d" % self.bound, 0), *ending()]
 
     def before(self):
-        return {"undefined": [], "step": [], "tidy": []}
+        return NOTHING_BEFORE
 
-    def look(self):
-        clean = " ".join("was[%d] = false;" % at for at in range(self.count))
-        return ["if :: %s -> waits = false; rounds = 0; chosen = 0; %s" % (self.right, clean),
-                ":: else -> if :: !waits && %s -> waits = true :: else fi fi;" % self.left,
-                broken("waits && rounds >= %d" % self.bound, 0)]
-
-    def after(self, number):
-        clean = " ".join("was[%d] = false;" % at for at in range(self.count))
-        counts = "if :: waits && !was[%d] -> was[%d] = true; chosen = chosen + 1 :: else fi;" % (number, number)
-        return [counts, "if :: chosen == %d -> rounds = rounds + 1; chosen = 0; %s :: else fi;" % (self.count, clean),
-                *self.look()]
+    def after(self):
+        return ["if :: waits && !was[n] -> was[n] = true; chosen = chosen + 1 :: else fi;",
+                "if :: chosen == %d -> rounds = rounds + 1; chosen = 0; %s :: else fi;" % (self.count, self.clean),
+                *self.begin()]

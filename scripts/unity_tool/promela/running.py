@@ -2,6 +2,7 @@
 import os
 import re
 import shutil
+import signal
 import subprocess
 import tempfile
 import time
@@ -35,70 +36,96 @@ class Found(NamedTuple):
     why: str = ""
 
 
+class Said(NamedTuple):
+    """What a program printed, and how it ended: its status, or nothing where the time was over."""
+    text: str
+    status: Optional[int]
+
+
 def is_there():
     """Whether SPIN and a compiler are there."""
     return shutil.which("spin") is not None and shutil.which("gcc") is not None
 
 
 def run(words, room, limits):
-    """What these words print in a folder, or nothing where the time is over."""
+    """What these words print in a folder, within the time that is left; all that they start ends with them."""
     if limits.left() <= 0:
-        return None
+        return Said("", None)
+    with subprocess.Popen(words, cwd=room, stdin=subprocess.DEVNULL, stdout=subprocess.PIPE, stderr=subprocess.STDOUT,
+                          start_new_session=True) as process:
+        try:
+            text, _ = process.communicate(timeout=max(0.0, limits.left()))
+            return Said(text.decode("utf-8", "replace"), process.returncode)
+        except subprocess.TimeoutExpired:
+            return Said("", None)
+        finally:
+            end_all(process.pid)
+
+
+def end_all(group):
+    """Ends what is left of a group of processes."""
     try:
-        done = subprocess.run(words, cwd=room, stdin=subprocess.DEVNULL, stdout=subprocess.PIPE,
-                              stderr=subprocess.STDOUT, timeout=limits.left(), check=False)
-    except subprocess.TimeoutExpired:
-        return None
-    return done.stdout.decode("utf-8", "replace") or "nothing was printed, and the status was %d" % done.returncode
+        os.killpg(group, signal.SIGKILL)
+    except (ProcessLookupError, PermissionError):
+        pass
 
 
-def search(model, formula, processes, limits):
-    """Searches a model for a violation of its assertions, the shortest one first; or of a formula, by fair runs."""
+def search(model, is_fair, processes, limits):
+    """Searches a model for a violation of its assertions, the shortest one first; or by fair runs for what must never
+    be."""
     with tempfile.TemporaryDirectory() as room:
         with open(os.path.join(room, "model.pml"), "w", encoding="utf-8") as file:
             file.write(model)
-        made = run(["spin", "-a", "model.pml"], room, limits)
-        flags = ["-DNFAIR=%d" % (processes // 4 + 3)] if formula else ["-DBFS", "-DSAFETY"]
+        flags = ["-DNFAIR=%d" % (processes // 4 + 3)] if is_fair else ["-DBFS", "-DSAFETY"]
         flags += ["-O1" if limits.seconds > QUICK else "-O0", "-w", "-DNOREDUCE", "-DVECTORSZ=65536",
                   "-DMEMLIM=%d" % limits.memory]
-        if not os.path.exists(os.path.join(room, "pan.c")):
-            return Found(UNDECIDED, why=out_of_time(limits) if limits.left() <= 0 else said_by(made, None))
-        built = run(["gcc", *flags, "-o", "pan", "pan.c"], room, limits)
-        if not os.path.exists(os.path.join(room, "pan")):
-            return Found(UNDECIDED, why=out_of_time(limits) if limits.left() <= 0 else said_by(made, built))
+        for words, made in ((["spin", "-a", "model.pml"], "pan.c"), (["gcc", *flags, "-o", "pan", "pan.c"], "pan")):
+            said = run(words, room, limits)
+            if said.status != 0 or not os.path.exists(os.path.join(room, made)):
+                return Found(UNDECIDED, why=refusal(words[0], said, limits))
         # (-E: a choice of a start at which the program may not begin ends there, and is no fault)
-        words = ["-a", "-f", "-N", formula, "-m%d" % DEPTH] if formula else ["-E"]
-        told = run(["./pan", *words], room, limits)
-        return judged(told, formula, room, limits)
+        told = run(["./pan", *(["-a", "-f", "-m%d" % DEPTH] if is_fair else ["-E"])], room, limits)
+        return judged(told, is_fair, room, limits)
 
 
-def said_by(made, built):
-    """What SPIN or the compiler said of a model that they did not take."""
-    said = "%s\n%s" % (made or "", built or "")
-    lines = [line for line in said.split("\n") if "rror" in line] + [line for line in said.split("\n") if line.strip()]
-    return "SPIN does not take the model: " + (lines[0].strip() if lines else "no word of why")
+def refusal(program, said, limits):
+    """Why a model was not made."""
+    if said.status is None:
+        return out_of_time(limits)
+    if said.status < 0:
+        return "%s was stopped by signal %d" % (program, -said.status)
+    lines = [line for line in said.text.split("\n") if "rror" in line] + said.text.strip().split("\n")
+    return "%s does not take the model: %s" % (program, lines[0].strip() or "status %d" % said.status)
 
 
 def out_of_time(limits):
     return "the limit of %d s was reached" % limits.seconds
 
 
-def judged(told, formula, room, limits):
-    if told is None:
+def judged(told, is_fair, room, limits):
+    """What a search found, by what it printed."""
+    if told.status is None:
         return Found(UNDECIDED, why=out_of_time(limits))
-    errors, states = (re.search(it, told) for it in (r"errors: (\d+)", r"(\d+) states, stored"))
-    seen = int(states.group(1)) if states else 0
+    errors, states = (re.search(it, told.text) for it in (r"errors: (\d+)", r"(\d+) states, stored"))
+    nominal = re.search(r"(\d+) nominal states", told.text)
+    seen = int((nominal or states).group(1)) if states else 0
     if errors and errors.group(1) != "0":
-        replayed = run(["./pan", "-r", *(["-N", formula] if formula else [])], room, limits)
-        found = trail(replayed, seen) if replayed else Found(UNDECIDED, seen, why=out_of_time(limits))
-        if found.verdict == VIOLATED and formula is None and found.claim is None:
-            return Found(UNDECIDED, seen, why="SPIN stopped where no claim is broken")
-        return found
-    if "out of memory" in told or "memory limit" in told or "MEMLIM" in told:
+        replayed = run(["./pan", "-r"], room, limits)
+        if replayed.status is None:
+            return Found(UNDECIDED, seen, why=out_of_time(limits))
+        found = trail(replayed.text, seen)
+        return found if is_fair or found.claim is not None else Found(UNDECIDED, seen, why=stopped_at(told.text))
+    if "out of memory" in told.text or "memory limit" in told.text or "MEMLIM" in told.text:
         return Found(UNDECIDED, seen, why="the limit of %d MB was reached" % limits.memory)
-    if "max search depth too small" in told:
+    if "max search depth too small" in told.text:
         return Found(UNDECIDED, seen, why="a run went deeper than %d steps" % DEPTH)
     return Found(HOLDS, seen) if errors else Found(UNDECIDED, seen, why="SPIN was stopped")
+
+
+def stopped_at(text):
+    """What SPIN says where it stopped and no claim is broken."""
+    said = re.search(r"(?m)^pan:\d+: (.*)$", text)
+    return "SPIN stopped where no claim is broken" + (": " + said.group(1) if said else "")
 
 
 def trail(replayed, seen):

@@ -7,7 +7,7 @@ from unity_tool.plan import Plan
 from unity_tool.program import unity
 from unity_tool.promela import claims, running
 from unity_tool.promela.asked import Asked
-from unity_tool.promela.model import TooLarge
+from unity_tool.promela.formulas import TooLarge
 
 SECONDS, MEMORY = 10, 1000
 MOST_SHOWN = 30
@@ -38,8 +38,9 @@ def tell(text, answer):
 def of_state(asked, values):
     """Whether a run comes to a state with these values."""
     found = asked.reached(values)
-    if found.verdict == "holds":
-        return "SPIN comes to no such state, in the %d states there are; that is its word, and no proof" % found.states
+    if found.verdict == running.HOLDS:
+        return "SPIN comes to no such state, in the %d states %s; that is its word, and no proof" % (
+            found.states, asked.where)
     if found.verdict == running.UNDECIDED:
         return "SPIN did not decide whether a run comes to this state: " + found.why
     if not is_replayed(asked, found, values):

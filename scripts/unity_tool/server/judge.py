@@ -186,7 +186,7 @@ class Judge:
             rows.append({"named": named, "program": it.program, "name": it.name, "state": word,
                          "record": records.get(named, it.kind), "first": it.first, "count": it.count,
                          "says": [[shown(says), self.text.place(at)["line"] + 1] for says, at in it.says],
-                         "using": it.using, "rests": resting, "words": self.latin[it.start:it.end], "start": it.start, "end": it.end})
+                         "using": it.using, "rests": resting, "words": self.latin[it.start:it.end]})
             if word == OPEN and state.get(named) is None and self.found:
                 because = "it rests on %s" % ", ".join(resting) if resting else "the search did not come to it"
                 self.found.append({"range": self.text.range(it.start, it.end), "severity": INFORMATION,

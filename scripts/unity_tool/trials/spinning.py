@@ -6,7 +6,7 @@ import re
 from unity_tool.plan import Plan
 from unity_tool.promela import claims, running
 from unity_tool.promela.asked import Asked
-from unity_tool.promela.model import TooLarge
+from unity_tool.promela.formulas import TooLarge
 from unity_tool.promela.running import Limits
 from unity_tool.trials.asking import ask, script, unity
 from unity_tool.trials.cases import Case
