@@ -2,10 +2,9 @@
 import re
 
 from unity_tool.document import TOKEN
-from unity_tool.server import outline
-from unity_tool.server.outline import BOUND, DEFINED, LABEL, PROGRAM, STEP, VALUE, VARIABLE
+from unity_tool.outline import BOUND, DEFINED, LABEL, PROGRAM, STEP, VALUE, VARIABLE
 from unity_tool.server.texts import shown
-from unity_tool.server.words import kind_of_word, table
+from unity_tool.words import kind_of_word, table
 
 # kinds of symbols, of completions and of tokens, by the numbers and words of the protocol
 SYMBOLS = {PROGRAM: 5, VARIABLE: 13, DEFINED: 12, VALUE: 22, LABEL: 6, STEP: 24}
@@ -106,11 +105,8 @@ def folds(text, names):
 
 def tokens(text, names):
     """The tokens in the form of the protocol: five numbers each, places relative to the token before."""
-    latin = text.before_certificates()
-    if len(latin) > outline.LONGEST:
-        return []
     kind_at = {it.start: OF_NAME[it.kind] for it in names.names}
-    pieces = [(found.start(), found.end(), kind) for found in re.finditer(r"#[^\n]*|" + TOKEN.pattern, latin)
+    pieces = [(found.start(), found.end(), kind) for found in re.finditer(r"#[^\n]*|" + TOKEN.pattern, names.latin)
               for kind in [kind_of(found.group(), kind_at.get(found.start()))] if kind]
     data, line, column = [], 0, 0
     for start, end, kind in pieces:

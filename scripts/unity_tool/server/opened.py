@@ -1,7 +1,7 @@
 """A document that is open in an editor: its text, what its names mean, and what was found of it."""
 import re
 
-from unity_tool.server.outline import Outline
+from unity_tool.outline import Outline
 
 ERROR = 1
 
@@ -24,7 +24,7 @@ class Opened:
     def names(self):
         """What the names of the present text mean."""
         if self.outline is None:
-            self.outline = Outline(self.text.before_certificates())
+            self.outline = Outline(self.text.outlined())
         return self.outline
 
     def at_top(self, says):

@@ -5,6 +5,8 @@ import re
 
 # what stands from here on is a list of certificates
 SECTION = re.compile(r"(?m)^certificates\b")
+# a longer document, without its certificates, has no outline
+LONGEST = 2000000
 
 
 class Text:
@@ -58,6 +60,11 @@ class Text:
 
     def before_certificates(self):
         return self.latin[:self.certificates()]
+
+    def outlined(self):
+        """What has an outline: the text before the certificates, where it is not too long."""
+        latin = self.before_certificates()
+        return latin if len(latin) <= LONGEST else ""
 
     def changed(self, change):
         """The text after a change, of a part or of all."""

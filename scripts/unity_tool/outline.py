@@ -6,10 +6,8 @@ each proof, and bound names and parameters one from the place that binds them to
 from typing import NamedTuple, Optional
 
 from unity_tool.document import REFERENCES, tokens_of
-from unity_tool.server.words import kind_of_word
+from unity_tool.words import kind_of_word
 
-# a longer document, without its certificates, has no outline
-LONGEST = 2000000
 PROGRAM, VARIABLE, DEFINED, VALUE, LABEL, STEP, BOUND = (
     "program", "variable", "always name", "value", "label", "step", "bound name")
 PARTS = ("declare", "always", "initially", "start", "assign")
@@ -43,7 +41,7 @@ class Outline:
     """The names of a text in order, and its parts."""
 
     def __init__(self, latin):
-        self.tokens = tokens_of(latin) if len(latin) <= LONGEST else []
+        self.tokens = tokens_of(latin)
         self.latin, self.names, self.folds = latin, [], []
         self.at, self.part, self.program = 0, "", ""
         self.bound, self.open, self.terms, self.wanted = [], [], [], 0
