@@ -12,8 +12,8 @@ HOLDS, VIOLATED, UNDECIDED = "holds", "violated", "undecided"
 DEPTH = 1000000
 # where so many seconds are left in all, the compiler is not asked to take its time
 QUICK = 15
-# one of several questions may take so many seconds, where they are left
-LEAST = 10
+# one of several questions may take so much of the whole time, where it is left
+LEAST = 6
 # a search that is stopped has so many seconds to tell how far it was
 MOMENT = 2
 
@@ -31,7 +31,7 @@ class Limits:
     def part(self, questions):
         """The limits of the next one of so many questions, so that what takes long leaves some time to the others."""
         left = max(0.0, self.left())
-        return Limits(max(left / questions, min(left, LEAST)), self.memory, self.whole)
+        return Limits(max(left / questions, min(left, self.whole / LEAST)), self.memory, self.whole)
 
     def reached(self):
         """What is said where the time was over."""
