@@ -86,6 +86,7 @@ document_input reading r e most bytes h =
       core_is = is.core_is;
       number_is = is.number_is;
       section_is = is.section_is;
+      places_is = is.places_is;
     }
 
 -- ---- the form of what is written
