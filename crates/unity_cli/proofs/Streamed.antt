@@ -198,3 +198,7 @@ others_no_check asked Command.Upgrade e other f =
     let never : ◌≡◌ {A = Option Request} (Some (meant Command.Upgrade)) (Some check) = sym e ∙ f in cc
 others_no_check asked Command.Watch e other f =
     let never : ◌≡◌ {A = Option Request} (Some (meant Command.Watch)) (Some check) = sym e ∙ f in cc
+others_no_check asked Command.Help e other f =
+    let never : ◌≡◌ {A = Option Request} (Some (meant Command.Help)) (Some check) = sym e ∙ f in cc
+others_no_check asked Command.Version e other f =
+    let never : ◌≡◌ {A = Option Request} (Some (meant Command.Version)) (Some check) = sym e ∙ f in cc
