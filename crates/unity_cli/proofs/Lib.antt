@@ -4,6 +4,7 @@ pub mod Told
 pub mod Searched
 pub mod SomeAnswers
 pub mod Shown
+pub mod Unread
 pub mod Upgraded
 pub mod Watched
 pub mod Streamed

@@ -44,7 +44,7 @@ use Rattle.certificate_reading.specs.Certificates.{certificates_of}
 use Rattle.cli_texts.specs.Refusals.{fault_text, refusal_text}
 use Rattle.cli_texts.specs.Verdicts.{accepted_text, rejected_text}
 use Rattle.plain_quotients.specs.from_upgraded_texts.Upgraded.{upgraded_text}
-use Rattle.cli_words.specs.Requests.{Request, check, prove, run, fixed, replay, demo, upgrade, watch}
+use Rattle.cli_words.specs.Requests.{Request, check, prove, run, fixed, replay, demo, upgrade, watch, help, version}
 use Rattle.cli_words.specs.Requests.{request_of}
 use Rattle.cli_words.proofs.Asking.{requests_are_asked}
 use Rattle.trace_watch.specs.declared.tracing.Ending.{Ending}
@@ -56,6 +56,7 @@ use Rattle.unity_cli.specs.Admitted.{greatest_size, greatest_bare_size, IsAdmitt
 use Rattle.unity_cli.specs.Answer.Check.{Checked}
 use Rattle.unity_cli.specs.Answer.Prove.{Searched}
 use Rattle.unity_cli.specs.Answer.Demo.{ring_budget, ring_line}
+use Rattle.unity_cli.specs.Answer.Constants.{help_text, version_text}
 use Rattle.unity_cli.specs.Answer.Run.{IsTrace, no_program}
 use Rattle.unity_cli.specs.Answer.Fixed.{IsFixedTrace}
 use Rattle.unity_cli.specs.Answer.Replay.{no_schedule, unknown}
@@ -571,6 +572,8 @@ limited_have_answer (Some (demo places)) limited bytes =
     (read_or_bad greatest_bare_size (ring_bytes places)))
 limited_have_answer (Some upgrade) limited bytes = upgrades bytes (read_or_bad greatest_bare_size bytes)
 limited_have_answer (Some watch) limited bytes = watches bytes (read_or_bad greatest_size bytes)
+limited_have_answer (Some help) limited bytes = (Status.Done, help_text, (refl, refl))
+limited_have_answer (Some version) limited bytes = (Status.Done, version_text, (refl, refl))
 
 -- words ask for no more
 words_are_limited : (words : List (List ℕ)) → IsLimited (request_of words)
@@ -586,6 +589,8 @@ words_are_limited words = by_request (request_of words) refl
     by_request (Some (demo places)) e = tt
     by_request (Some upgrade) e = tt
     by_request (Some watch) e = tt
+    by_request (Some help) e = tt
+    by_request (Some version) e = tt
 
 pub some_answer : SomeAnswer
 some_answer words bytes = limited_have_answer (request_of words) (words_are_limited words) bytes

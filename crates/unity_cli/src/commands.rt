@@ -1,9 +1,10 @@
 // Answering a command.
-ghost use Rattle.std.specs.Prelude.{◌≡◌, ◌≢◌, ◌≤◌, ◌^◌, ℕ, Some};
+ghost use Rattle.std.specs.Prelude.{◌≡◌, ◌≢◌, ◌≤◌, ◌^◌, ℕ, Some, None};
 ghost use Rattle.unity_base.specs.Streams.{IsTold};
 ghost use Rattle.cli_words.specs.declared.words.Command.{Command};
 ghost use Rattle.cli_words.specs.Requests.{HasLimits, meant};
 ghost use Rattle.unity_cli.specs.Answer as answers;
+ghost use Rattle.unity_cli.specs.Answer.Constants.{constant_text};
 ghost use Rattle.unity_cli.specs.Answering.{TellsText};
 ghost use Rattle.unity_cli.specs.Input.{IsSomeText};
 
@@ -36,12 +37,14 @@ pub fn most_bytes(command: &Command) -> usize
 }
 
 /// Writes what the command answers for what a source gave. A search and an upgrade need the bytes themselves; the
-/// other commands let them go first. `check` reads its source itself, and a ring needs none.
+/// other commands let them go first. `check` reads its source itself; a ring and a text that is always the same need
+/// none.
 pub fn write_command<K: Sink>(alloc: Global, command: &Command, text: Text, out: &mut K) -> Status
     requires text { IsSomeText (answers.most_bytes (Some (meant command.now))) text }
     requires limits { HasLimits command.now }
     requires no_check { command.now ≢ Command.Check }
     requires no_ring { (places : ℕ) → command.now ≢ Command.Demo places }
+    requires no_constant { constant_text (meant command.now) ≡ None }
     ensures told { TellsText (meant command.now) text (K.written out.old) (K.written out.new) result }
     ensures nothing { result ≡ Status.WantOfMemory → out.new ≡ out.old }
     ensures never { result ≡ Status.ReadFault → ⊥ }
@@ -49,6 +52,7 @@ pub fn write_command<K: Sink>(alloc: Global, command: &Command, text: Text, out:
 {
     match command {
         Command::Check | Command::Demo { .. } => unreachable!(),
+        Command::Help | Command::Version => unreachable!(),
         Command::Prove { budget } => write_finding(alloc, *budget, &text.bytes, &text.input, out),
         Command::Run { .. } | Command::Fixed { .. } | Command::Replay => {
             write_trace(alloc, command, &input_of(text), out)

@@ -3,6 +3,7 @@
 
 mod check;
 mod commands;
+mod constants;
 mod demo;
 mod fixed;
 mod input;
