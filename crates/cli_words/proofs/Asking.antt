@@ -6,7 +6,7 @@ use Rattle.std.specs.Str.{bytes_eq}
 use Rattle.std.proofs.lemmas.Slice.Eq.{bytes_eq-Decides}
 use Rattle.cli_words.specs.Numbers.{number_in}
 use Rattle.cli_words.specs.Requests.{Request, check, prove, run, fixed, replay, demo, upgrade, watch, help, version}
-use Rattle.cli_words.specs.Requests.{positive, several, one_word, two_words, three_words, request_of}
+use Rattle.cli_words.specs.Requests.{obligations, positive, several, one_word, two_words, three_words, request_of}
 use Rattle.cli_words.specs.Laws.{Asks, RequestsAreAsked}
 use Rattle.cli_words.proofs.Decimals.{numbers_are_decimal}
 
@@ -22,16 +22,22 @@ word_asks word spelt meant request asks same is =
 -- what a word asks for that is none of the first four
 abbrev later_word : List ℕ → Option Request
 later_word word = cond (bytes_eq word (codes "help")) (Some help)
-    (cond (bytes_eq word (codes "version")) (Some version) None)
+    (cond (bytes_eq word (codes "version")) (Some version)
+    (cond (bytes_eq word (codes "obligations")) (Some obligations) None))
 
 later_asked : (word : List ℕ) (request : Request) → later_word word ≡ Some request → Asks (word ∷ []) request
-later_asked word request e = go (bytes_eq word (codes "help")) refl (bytes_eq word (codes "version")) refl e
+later_asked word request e =
+    go (bytes_eq word (codes "help")) refl (bytes_eq word (codes "version")) refl
+    (bytes_eq word (codes "obligations")) refl e
   where
     go : (b : Bool) → bytes_eq word (codes "help") ≡ b → (c : Bool) → bytes_eq word (codes "version") ≡ c →
-        cond b (Some help) (cond c (Some version) None) ≡ Some request → Asks (word ∷ []) request
-    go true h c k some = word_asks word _ help request refl h cc
-    go false h true k some = word_asks word _ version request refl k cc
-    go false h false k some = cc
+        (d : Bool) → bytes_eq word (codes "obligations") ≡ d →
+        cond b (Some help) (cond c (Some version) (cond d (Some obligations) None)) ≡ Some request →
+        Asks (word ∷ []) request
+    go true h c k d l some = word_asks word _ help request refl h cc
+    go false h true k d l some = word_asks word _ version request refl k cc
+    go false h false k true l some = word_asks word _ obligations request refl l cc
+    go false h false k false l some = cc
 
 one_asked : (word : List ℕ) (request : Request) → one_word word ≡ Some request → Asks (word ∷ []) request
 one_asked word request e =
@@ -150,6 +156,7 @@ asking_words words upgrade h = ap request_of h
 asking_words words watch h = ap request_of h
 asking_words words help h = ap request_of h
 asking_words words version h = ap request_of h
+asking_words words obligations h = ap request_of h
 asking_words words (demo places) h =
     ap request_of h.0
     ∙ ap (λ n. option_map demo (several n))

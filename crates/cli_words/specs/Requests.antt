@@ -17,6 +17,7 @@ pub data Request : Type 0 where
   watch : Request
   help : Request
   version : Request
+  obligations : Request
 
 abbrev pub meant : Command → Request
 meant Command.Check = check
@@ -29,6 +30,7 @@ meant Command.Upgrade = upgrade
 meant Command.Watch = watch
 meant Command.Help = help
 meant Command.Version = version
+meant Command.Obligations = obligations
 
 abbrev pub one_word : List ℕ → Option Request
 one_word word =
@@ -37,7 +39,8 @@ one_word word =
     (cond (bytes_eq word (codes "upgrade")) (Some upgrade)
     (cond (bytes_eq word (codes "watch")) (Some watch)
     (cond (bytes_eq word (codes "help")) (Some help)
-    (cond (bytes_eq word (codes "version")) (Some version) None)))))
+    (cond (bytes_eq word (codes "version")) (Some version)
+    (cond (bytes_eq word (codes "obligations")) (Some obligations) None))))))
 
 -- a number that is not zero
 abbrev pub positive : Option ℕ → Option ℕ

@@ -38,6 +38,8 @@ pub enum Command<'a> {
     Help,
     /// `version`: the version of the program, and those of the language that it reads.
     Version,
+    /// `obligations`: what is left to be shown for the document's proofs, as a script that solvers read.
+    Obligations,
 }
 
 /// The command that the words are, read by position. `None` where they are none.
@@ -70,6 +72,8 @@ fn read_one<'a>(word: &str) -> Option<Command<'a>>
         Some(Command::Help)
     } else if word == "version" {
         Some(Command::Version)
+    } else if word == "obligations" {
+        Some(Command::Obligations)
     } else {
         None
     }

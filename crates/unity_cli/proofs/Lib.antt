@@ -2,6 +2,7 @@ pub mod Accepted
 pub mod OneAnswers
 pub mod Told
 pub mod Searched
+pub mod Listed
 pub mod SomeAnswers
 pub mod Shown
 pub mod Unread

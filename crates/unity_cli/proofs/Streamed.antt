@@ -202,3 +202,5 @@ others_no_check asked Command.Help e other f =
     let never : ◌≡◌ {A = Option Request} (Some (meant Command.Help)) (Some check) = sym e ∙ f in cc
 others_no_check asked Command.Version e other f =
     let never : ◌≡◌ {A = Option Request} (Some (meant Command.Version)) (Some check) = sym e ∙ f in cc
+others_no_check asked Command.Obligations e other f =
+    let never : ◌≡◌ {A = Option Request} (Some (meant Command.Obligations)) (Some check) = sym e ∙ f in cc

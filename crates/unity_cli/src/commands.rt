@@ -9,6 +9,7 @@ ghost use Rattle.unity_cli.specs.Answering.{TellsText};
 ghost use Rattle.unity_cli.specs.Input.{IsSomeText};
 
 use crate::input::{Input, Text};
+use crate::listing::write_listing;
 use crate::prove::write_finding;
 use crate::status::Status;
 use crate::traces::write_trace;
@@ -22,7 +23,7 @@ use unity_base::Sink;
 pub const GREATEST_SIZE: usize = 67_108_864;
 
 /// The greatest number of bytes of a text that is written again: with certificates that are to be found, or in
-/// version 2.
+/// version 2, or listed.
 pub const GREATEST_BARE_SIZE: usize = 8_388_608;
 
 /// The greatest number of bytes that the command takes.
@@ -31,13 +32,13 @@ pub fn most_bytes(command: &Command) -> usize
     ensures within { result ≤ 2 ^ 29 }
 {
     match command {
-        Command::Prove { .. } | Command::Upgrade => GREATEST_BARE_SIZE,
+        Command::Prove { .. } | Command::Upgrade | Command::Obligations => GREATEST_BARE_SIZE,
         _ => GREATEST_SIZE,
     }
 }
 
-/// Writes what the command answers for what a source gave. A search and an upgrade need the bytes themselves; the
-/// other commands let them go first. `check` reads its source itself; a ring and a text that is always the same need
+/// Writes what the command answers for what a source gave. A search, an upgrade and a listing need the bytes
+/// themselves; the other commands let them go first. `check` reads its source itself; a ring and a text that is always the same need
 /// none.
 pub fn write_command<K: Sink>(alloc: Global, command: &Command, text: Text, out: &mut K) -> Status
     requires text { IsSomeText (answers.most_bytes (Some (meant command.now))) text }
@@ -59,6 +60,7 @@ pub fn write_command<K: Sink>(alloc: Global, command: &Command, text: Text, out:
         }
         Command::Upgrade => write_upgrade(alloc, text, out),
         Command::Watch => write_watch(alloc, &input_of(text), out),
+        Command::Obligations => write_listing(alloc, &text.bytes, &text.input, out),
     }
 }
 

@@ -23,6 +23,7 @@ commands:
   fixed PROGRAM STEPS  the same, up to the first fixed point
   replay               executes the document's schedule
   watch                looks on it for a violation of what the proof claims
+  obligations          writes what is left to be shown, as a script for solvers
   upgrade              writes the document in version 2 of the language
   demo N               proves and checks a ring of 2 to 64 places
   help                 writes this text
@@ -30,7 +31,7 @@ commands:
 demo, help and version read nothing.
 
 exit status:
-   0  accepted, proved, executed, or not violated
+   0  accepted, proved, executed, listed, or not violated
    1  rejected: a step does not follow its rule, or a certificate fails
    2  bad: no document without a fault, or none for this command
    3  refuted: an obligation is false
