@@ -17,7 +17,7 @@ from unity_tool.files import read_document, write
 from unity_tool.places import show
 from unity_tool.plan import Plan
 from unity_tool.program import ask, need_answers, unity
-from unity_tool.promela import claims, running
+from unity_tool.promela import running
 from unity_tool.promela.asked import Asked
 from unity_tool.promela.formulas import TooLarge
 from unity_tool.trying import number
@@ -55,26 +55,16 @@ def chosen_steps(plan, names):
     return found
 
 
-def verdicts(asked, steps, bounds):
-    """What SPIN says of steps of one program, one after the other."""
-    yield from asked.safety(steps)
-    for step in steps:
-        named = "%s.%s" % (step.program, step.name)
-        if claims.is_progress(step) and bounds is None:
-            yield asked.progress(step)
-        elif bounds and named in bounds:
-            yield asked.rounds(step, bounds[named])
-
-
 def all_verdicts(plan, steps, limits, chosen):
-    """What SPIN says of steps, program by program, each with the model that was asked. Of a program that is too large
-    for one that is noted, and there is no model."""
-    for program in dict.fromkeys(it.program for it in steps):
+    """What SPIN says of steps, program by program, each with the model that was asked. Of what is too large for a
+    model that is noted, and nothing comes."""
+    programs = list(dict.fromkeys(it.program for it in steps))
+    for at, program in enumerate(programs):
         mine = [it for it in steps if it.program == program]
         bounds = bounds_of(plan.document.text, program) if chosen.rounds else None
         try:
-            asked = Asked(plan, program, limits, chosen.start)
-            yield from ((asked, it) for it in verdicts(asked, mine, bounds))
+            asked = Asked(plan, program, limits.part(len(programs) - at), chosen.start)
+            yield from ((asked, it) for it in asked.verdicts(mine, bounds))
         except TooLarge as fault:
             note("%s: not decided: %s" % (program, fault.says))
             yield None, None

@@ -6,8 +6,9 @@ searched for. Of a refusal it prints the place and what docs/WRITING.md says of 
 statement, and asks `unity` what this makes of the state that was printed: what changes, or which write is undefined,
 which part of the claim does not hold after it, and which invariants of the proof exclude the state. It judges nothing
 by itself: each truth that it tells is a value in a replay, or a claim that `unity prove` accepted or refuted. Where
-spin and gcc are there, SPIN is asked for ten seconds whether a run comes to the state, and such a run is replayed;
-UNITY_SPIN=0 lets that be. BUDGET is 1000000 where none is given.
+spin and gcc are there, SPIN is asked for ten seconds whether a run comes to the state, and where progress is claimed
+whether a fair run never comes to the end of the claim. What it finds is replayed. UNITY_SPIN=0 lets that be. BUDGET is
+1000000 where none is given.
 """
 import os
 import re

@@ -15,6 +15,7 @@ MOST_CHOICES = 50000
 MOST_STARTS = 20000000
 # so many cases are asked for in one search
 MOST_CASES = 250
+COMES = ", that it comes"
 
 
 class Verdict:
@@ -47,7 +48,7 @@ class Asked:
     document's own start, where there are too many or where this is asked for."""
 
     def __init__(self, plan, program, limits, at_start=False):
-        self.plan, self.limits = plan, limits
+        self.plan, self.limits, self.now = plan, limits, limits
         self.model, self.told = Model(plan.document, program), None
         self.where = "there are"
         if at_start or Start(self.model).choices() > MOST_STARTS:
@@ -68,7 +69,7 @@ class Asked:
 
     def search(self, monitor, cases=()):
         text = self.model.text(monitor, claims.never(cases) if cases else "", self.told)
-        return search(text, bool(cases), len(self.model.instances), self.limits)
+        return search(text, bool(cases), len(self.model.instances), self.now)
 
     def verdict(self, step, found, asked=""):
         return Verdict(step, found, self.where, asked)
@@ -82,6 +83,24 @@ class Asked:
             if found.verdict != HOLDS:
                 return found
         return found._replace(states=states)
+
+    def verdicts(self, steps, bounds=None):
+        """What is said of steps, one after the other; with bounds, whether progress comes within them."""
+        progress = [it for it in steps if claims.is_progress(it)]
+        if bounds is not None:
+            progress = [it for it in steps if "%s.%s" % (it.program, it.name) in bounds]
+        self.now = self.limits.part(1 + bool(progress))
+        yield from self.safety(steps)
+        if bounds is None and len(progress) > 1:
+            self.now = self.limits.part(2)
+            found = self.comes(progress)
+            if found.verdict == HOLDS:
+                yield from (self.verdict(it, found, COMES) for it in progress)
+                return
+        for at, step in enumerate(progress):
+            self.now = self.limits.part(len(progress) - at)
+            yield self.progress(step) if bounds is None else self.rounds(
+                step, bounds["%s.%s" % (step.program, step.name)])
 
     def safety(self, steps):
         """What one step shows: all claims in one run, and the others again where one is violated."""
@@ -104,12 +123,15 @@ class Asked:
                 break
         return found, some[found.claim].step if found.verdict == VIOLATED else None
 
+    def comes(self, steps):
+        """Whether claims of progress come to their ends on each fair run, so many cases at a time."""
+        cases = list(claims.cases_of(self.model, steps))
+        return self.each(self.search(claims.Monitor(self.model, []), cases[at:at + MOST_CASES])
+                         for at in range(0, len(cases), MOST_CASES))
+
     def progress(self, step):
         """Whether a claim of progress comes to its end on each fair run."""
-        cases = list(claims.cases_of(self.model, [step]))
-        found = self.each(self.search(claims.Monitor(self.model, []), cases[at:at + MOST_CASES])
-                          for at in range(0, len(cases), MOST_CASES))
-        return self.verdict(step, found, ", that it comes")
+        return self.verdict(step, self.comes([step]), COMES)
 
     def rounds(self, step, bound):
         """Whether a claim of progress comes to its end within its bound: each run, counted in rounds."""

@@ -12,16 +12,32 @@ HOLDS, VIOLATED, UNDECIDED = "holds", "violated", "undecided"
 DEPTH = 1000000
 # where so many seconds are left in all, the compiler is not asked to take its time
 QUICK = 15
+# one of several questions may take so much of the whole time, where it is left
+LEAST = 6
+# a search that is stopped has so many seconds to tell how far it was
+MOMENT = 2
 
 
 class Limits:
-    """What may be taken: seconds in all, from now on, and MB of memory for a search."""
+    """What may be taken: seconds, from now on, and MB of memory for a search; `whole` is the limit of all questions."""
 
-    def __init__(self, seconds, memory):
+    def __init__(self, seconds, memory, whole=None):
         self.seconds, self.memory, self.end = seconds, memory, time.monotonic() + seconds
+        self.whole = seconds if whole is None else whole
 
     def left(self):
         return self.end - time.monotonic()
+
+    def part(self, questions):
+        """The limits of the next one of so many questions, so that what takes long leaves some time to the others."""
+        left = max(0.0, self.left())
+        return Limits(max(left / questions, min(left, self.whole / LEAST)), self.memory, self.whole)
+
+    def reached(self):
+        """What is said where the time was over."""
+        if self.seconds > self.whole - 1 or self.seconds < 1:
+            return "the limit of %d s was reached%s" % (self.whole, " before" if self.seconds < 1 else "")
+        return "it was not done in %d s, its part of the limit of %d s" % (self.seconds, self.whole)
 
 
 class Found(NamedTuple):
@@ -37,7 +53,7 @@ class Found(NamedTuple):
 
 
 class Said(NamedTuple):
-    """What a program printed, and how it ended: its status, or nothing where the time was over."""
+    """What a program printed, and its status, or nothing where the time was over."""
     text: str
     status: Optional[int]
 
@@ -57,15 +73,24 @@ def run(words, room, limits):
             text, _ = process.communicate(timeout=max(0.0, limits.left()))
             return Said(text.decode("utf-8", "replace"), process.returncode)
         except subprocess.TimeoutExpired:
-            return Said("", None)
+            return Said(last_words(process), None)
         finally:
-            end_all(process.pid)
+            tell_all(process.pid, signal.SIGKILL)
 
 
-def end_all(group):
-    """Ends what is left of a group of processes."""
+def last_words(process):
+    """What a process that is stopped still prints."""
+    tell_all(process.pid, signal.SIGINT)
     try:
-        os.killpg(group, signal.SIGKILL)
+        return process.communicate(timeout=MOMENT)[0].decode("utf-8", "replace")
+    except subprocess.TimeoutExpired:
+        return ""
+
+
+def tell_all(group, number):
+    """Sends a signal to what is left of a group of processes."""
+    try:
+        os.killpg(group, number)
     except (ProcessLookupError, PermissionError):
         pass
 
@@ -91,28 +116,24 @@ def search(model, is_fair, processes, limits):
 def refusal(program, said, limits):
     """Why a model was not made."""
     if said.status is None:
-        return out_of_time(limits)
+        return limits.reached()
     if said.status < 0:
         return "%s was stopped by signal %d" % (program, -said.status)
     lines = [line for line in said.text.split("\n") if "rror" in line] + said.text.strip().split("\n")
     return "%s does not take the model: %s" % (program, lines[0].strip() or "status %d" % said.status)
 
 
-def out_of_time(limits):
-    return "the limit of %d s was reached" % limits.seconds
-
-
 def judged(told, is_fair, room, limits):
     """What a search found, by what it printed."""
-    if told.status is None:
-        return Found(UNDECIDED, why=out_of_time(limits))
     errors, states = (re.search(it, told.text) for it in (r"errors: (\d+)", r"(\d+) states, stored"))
     nominal = re.search(r"(\d+) nominal states", told.text)
     seen = int((nominal or states).group(1)) if states else 0
+    if told.status is None:
+        return Found(UNDECIDED, seen, why=limits.reached())
     if errors and errors.group(1) != "0":
         replayed = run(["./pan", "-r"], room, limits)
         if replayed.status is None:
-            return Found(UNDECIDED, seen, why=out_of_time(limits))
+            return Found(UNDECIDED, seen, why=limits.reached())
         found = trail(replayed.text, seen)
         return found if is_fair or found.claim is not None else Found(UNDECIDED, seen, why=stopped_at(told.text))
     if "out of memory" in told.text or "memory limit" in told.text or "MEMLIM" in told.text:

@@ -78,6 +78,16 @@ def asked_by_why(room):
     yield "what SPIN says to `why`", None if "SPIN" in last else last
 
 
+def circle_for_why(room):
+    """Of a claim of progress that fails `why` tells a fair run that never comes to its end."""
+    del room
+    if not running.is_there():
+        return
+    came = script("why.sh", "tests/limits/starved.unity", env={**os.environ, "UNITY_SPIN": "1"}).text.decode()
+    said = [line for line in came.splitlines() if "never comes to the end of Starved.comes" in line]
+    yield "the end that never comes, for `why`", None if said and ("replayed" in said[0] or "limit" in said[0]) else came
+
+
 def documents_cases():
     """SPIN on each document: an hour of processor, so these are run where they are asked for alone."""
     for folder in FOLDERS:
@@ -88,3 +98,4 @@ def documents_cases():
 def cases():
     yield Case("SPIN on a lock that starves", starves, 10)
     yield Case("SPIN for `why`", asked_by_why, 5)
+    yield Case("SPIN on an end, for `why`", circle_for_why, 10)

@@ -1,0 +1,5 @@
+use Rattle.schedule_replay.proofs.BufferLaws.{put_then}
+use Rattle.solver_scripts.proofs.names.put_symbol.Goals as goal
+
+pub returns : goal.returns
+returns g c = put_then (put_then c.put.ensures c.put_name.ensures) c.put-2.ensures

@@ -1,0 +1,5 @@
+pub mod Terms
+pub mod Naming
+pub mod Forms
+pub mod Scripts
+pub mod Laws

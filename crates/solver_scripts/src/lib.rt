@@ -1,0 +1,10 @@
+//! Obligations as scripts that solvers read: the text of an obligation in SMT-LIB, and what it means.
+#![tactic(auto)]
+
+mod forms;
+mod laws;
+mod names;
+mod scripts;
+
+pub use laws::script_laws;
+pub use scripts::put_script;

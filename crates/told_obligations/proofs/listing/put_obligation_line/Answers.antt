@@ -1,0 +1,7 @@
+use Rattle.schedule_replay.proofs.BufferLaws.{put_then}
+use Rattle.told_obligations.proofs.listing.put_obligation_line.Goals as goal
+
+pub returns : goal.returns
+returns g c =
+    put_then (put_then (put_then (put_then (put_then (put_then c.put.ensures c.put_number.ensures) c.put-2.ensures)
+    c.put_name.ensures) c.put-3.ensures) c.put_origin_at.ensures) c.put-4.ensures

@@ -1,0 +1,4 @@
+pub mod Following
+pub mod Listing
+pub mod Origins
+pub mod Places
