@@ -7,4 +7,5 @@ mod names;
 mod scripts;
 
 pub use laws::script_laws;
-pub use scripts::put_script;
+pub use names::Names;
+pub use scripts::{put_ranges, put_script};

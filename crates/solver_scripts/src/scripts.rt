@@ -58,8 +58,8 @@ fn put_range_parts<K: Sink>(text: &mut Buffer, out: &mut K, names: &Names, varia
     }
 }
 
-// Puts that variables lie in their ranges.
-fn put_ranges<K: Sink>(text: &mut Buffer, out: &mut K, names: &Names, variables: &[Variable])
+/// Puts that variables lie in their ranges, as a conjunction, or `true` where there are none.
+pub fn put_ranges<K: Sink>(text: &mut Buffer, out: &mut K, names: &Names, variables: &[Variable])
     ensures { IsPut (K.written out.old) (K.written out.new) (K.faults out.old) (K.faults out.new) text.old text.new
         (script.conjunction_text (flat_map (script.range_terms (symbols names.now)) variables.now)) }
 {
