@@ -51,7 +51,7 @@ QUESTIONS = [
     ("fixed Over 3", "past_the_end"), ("replay", "race"), ("replay", "past_the_end"), ("replay", "count"),
     ("watch", "race"), ("watch", "lost_update_mended"), ("watch", "past_the_end"), ("watch", "count"),
     ("upgrade", "count"), ("upgrade", "count_wrong_sum"), ("upgrade", "unknown_name"), ("demo 2", "count"),
-    ("demo 1", "count"),
+    ("demo 1", "count"), ("help", "count"), ("version", "count"),
 ]
 
 

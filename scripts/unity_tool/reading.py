@@ -57,6 +57,7 @@ class AnttFile(File):
         super().__init__(repo, crate, path)
         self.comments = []
         self.item = None
+        self.in_mutual = False
         for number, line in enumerate(self.lines, 1):
             self.take_line(number, line)
         for item in list(self.items.values()):
@@ -64,6 +65,16 @@ class AnttFile(File):
                 self.take_cases(item)
 
     def take_line(self, number, line):
+        """The definitions of a `mutual` block are indented, and are read as those outside."""
+        if self.in_mutual and line.startswith("  "):
+            line = line[2:]
+        elif line.strip():
+            self.in_mutual = line.split() in (["mutual"], ["abbrev", "mutual"])
+            if self.in_mutual:
+                return
+        self.take_definition_line(number, line)
+
+    def take_definition_line(self, number, line):
         words = line.split()
         if not words:
             # a comment before a blank line belongs to no definition

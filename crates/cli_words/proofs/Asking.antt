@@ -1,17 +1,43 @@
 -- Words ask for what their places say.
 use Rattle.std.proofs.Common.{◌≡◌, ◌≤◌, ℕ, zero, suc, Bool, true, false, cond, List, [], ◌∷◌, codes, decimal, Option}
 use Rattle.std.proofs.Common.{Some}
-use Rattle.std.proofs.Common.{None, option_map, refl, ap, ◌∙◌, subst, arith}
+use Rattle.std.proofs.Common.{None, option_map, refl, sym, ap, ◌∙◌, subst, arith}
 use Rattle.std.specs.Str.{bytes_eq}
 use Rattle.std.proofs.lemmas.Slice.Eq.{bytes_eq-Decides}
 use Rattle.cli_words.specs.Numbers.{number_in}
-use Rattle.cli_words.specs.Requests.{Request, check, prove, run, fixed, replay, demo, upgrade, watch, positive}
-use Rattle.cli_words.specs.Requests.{several, one_word, two_words, three_words, request_of}
+use Rattle.cli_words.specs.Requests.{Request, check, prove, run, fixed, replay, demo, upgrade, watch, help, version}
+use Rattle.cli_words.specs.Requests.{obligations, positive, several, one_word, two_words, three_words, request_of}
 use Rattle.cli_words.specs.Laws.{Asks, RequestsAreAsked}
 use Rattle.cli_words.proofs.Decimals.{numbers_are_decimal}
 
 same_bytes : (a b : List ℕ) → bytes_eq a b ≡ true → a ≡ b
 same_bytes a b e = (bytes_eq-Decides a b).0 e
+
+-- a word that is the one for a request
+word_asks : (word spelt : List ℕ) (meant request : Request) → Asks (spelt ∷ []) meant → bytes_eq word spelt ≡ true →
+    meant ≡ request → Asks (word ∷ []) request
+word_asks word spelt meant request asks same is =
+    subst (Asks (word ∷ [])) is (subst (λ w. Asks (w ∷ []) meant) (sym (same_bytes word spelt same)) asks)
+
+-- what a word asks for that is none of the first four
+abbrev later_word : List ℕ → Option Request
+later_word word = cond (bytes_eq word (codes "help")) (Some help)
+    (cond (bytes_eq word (codes "version")) (Some version)
+    (cond (bytes_eq word (codes "obligations")) (Some obligations) None))
+
+later_asked : (word : List ℕ) (request : Request) → later_word word ≡ Some request → Asks (word ∷ []) request
+later_asked word request e =
+    go (bytes_eq word (codes "help")) refl (bytes_eq word (codes "version")) refl
+    (bytes_eq word (codes "obligations")) refl e
+  where
+    go : (b : Bool) → bytes_eq word (codes "help") ≡ b → (c : Bool) → bytes_eq word (codes "version") ≡ c →
+        (d : Bool) → bytes_eq word (codes "obligations") ≡ d →
+        cond b (Some help) (cond c (Some version) (cond d (Some obligations) None)) ≡ Some request →
+        Asks (word ∷ []) request
+    go true h c k d l some = word_asks word _ help request refl h cc
+    go false h true k d l some = word_asks word _ version request refl k cc
+    go false h false k true l some = word_asks word _ obligations request refl l cc
+    go false h false k false l some = cc
 
 one_asked : (word : List ℕ) (request : Request) → one_word word ≡ Some request → Asks (word ∷ []) request
 one_asked word request e =
@@ -20,17 +46,13 @@ one_asked word request e =
   where
     go : (b : Bool) → bytes_eq word (codes "check") ≡ b → (c : Bool) → bytes_eq word (codes "replay") ≡ c →
         (d : Bool) → bytes_eq word (codes "upgrade") ≡ d → (w : Bool) → bytes_eq word (codes "watch") ≡ w →
-        cond b (Some check) (cond c (Some replay) (cond d (Some upgrade) (cond w (Some watch) None))) ≡ Some request →
-        Asks (word ∷ []) request
-    go true h c k d l w m some =
-        let is : check ≡ request = cc in subst (Asks (word ∷ [])) is (ap (λ t. t ∷ []) (same_bytes word _ h))
-    go false h true k d l w m some =
-        let is : replay ≡ request = cc in subst (Asks (word ∷ [])) is (ap (λ w. w ∷ []) (same_bytes word _ k))
-    go false h false k true l w m some =
-        let is : upgrade ≡ request = cc in subst (Asks (word ∷ [])) is (ap (λ w. w ∷ []) (same_bytes word _ l))
-    go false h false k false l true m some =
-        let is : watch ≡ request = cc in subst (Asks (word ∷ [])) is (ap (λ w. w ∷ []) (same_bytes word _ m))
-    go false h false k false l false m some = cc
+        cond b (Some check) (cond c (Some replay) (cond d (Some upgrade) (cond w (Some watch) (later_word word)))) ≡
+        Some request → Asks (word ∷ []) request
+    go true h c k d l w m some = word_asks word _ check request refl h cc
+    go false h true k d l w m some = word_asks word _ replay request refl k cc
+    go false h false k true l w m some = word_asks word _ upgrade request refl l cc
+    go false h false k false l true m some = word_asks word _ watch request refl m cc
+    go false h false k false l false m some = later_asked word request some
 
 prove_asked : (word budget : List ℕ) (found : Option ℕ) (request : Request) → word ≡ codes "prove" →
     number_in 1000000 budget ≡ found → option_map prove (positive found) ≡ Some request →
@@ -132,6 +154,9 @@ asking_words words (fixed program steps) h =
 asking_words words replay h = ap request_of h
 asking_words words upgrade h = ap request_of h
 asking_words words watch h = ap request_of h
+asking_words words help h = ap request_of h
+asking_words words version h = ap request_of h
+asking_words words obligations h = ap request_of h
 asking_words words (demo places) h =
     ap request_of h.0
     ∙ ap (λ n. option_map demo (several n))

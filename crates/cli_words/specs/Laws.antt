@@ -1,7 +1,8 @@
 -- What words are where they ask for something, as statements that functions name.
 use Rattle.std.specs.Prelude.{◌≡◌, ◌≤◌, ◌<◌, ◌^◌, ◌↔◌, ℕ, List, [], ◌∷◌, codes, decimal, Some}
 use Rattle.cli_words.specs.Numbers.{number_in}
-use Rattle.cli_words.specs.Requests.{Request, check, prove, run, fixed, replay, demo, upgrade, watch, request_of}
+use Rattle.cli_words.specs.Requests.{Request, check, prove, run, fixed, replay, demo, upgrade, watch, help, version}
+use Rattle.cli_words.specs.Requests.{obligations, request_of}
 
 abbrev pub NumbersAreDecimal : Type 0
 NumbersAreDecimal = (most n : ℕ) (word : List ℕ) → most < 2 ^ 64 →
@@ -17,6 +18,9 @@ Asks words replay = words ≡ codes "replay" ∷ []
 Asks words (demo places) = (words ≡ codes "demo" ∷ decimal places ∷ []) × (2 ≤ places) × (places ≤ 64)
 Asks words upgrade = words ≡ codes "upgrade" ∷ []
 Asks words watch = words ≡ codes "watch" ∷ []
+Asks words help = words ≡ codes "help" ∷ []
+Asks words version = words ≡ codes "version" ∷ []
+Asks words obligations = words ≡ codes "obligations" ∷ []
 
 abbrev pub RequestsAreAsked : Type 0
 RequestsAreAsked = (words : List (List ℕ)) (request : Request) → (request_of words ≡ Some request) ↔ Asks words request

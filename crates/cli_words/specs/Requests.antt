@@ -15,6 +15,9 @@ pub data Request : Type 0 where
   demo : (places : ℕ) → Request
   upgrade : Request
   watch : Request
+  help : Request
+  version : Request
+  obligations : Request
 
 abbrev pub meant : Command → Request
 meant Command.Check = check
@@ -25,13 +28,19 @@ meant Command.Replay = replay
 meant (Command.Demo places) = demo places
 meant Command.Upgrade = upgrade
 meant Command.Watch = watch
+meant Command.Help = help
+meant Command.Version = version
+meant Command.Obligations = obligations
 
 abbrev pub one_word : List ℕ → Option Request
 one_word word =
     cond (bytes_eq word (codes "check")) (Some check)
     (cond (bytes_eq word (codes "replay")) (Some replay)
     (cond (bytes_eq word (codes "upgrade")) (Some upgrade)
-    (cond (bytes_eq word (codes "watch")) (Some watch) None)))
+    (cond (bytes_eq word (codes "watch")) (Some watch)
+    (cond (bytes_eq word (codes "help")) (Some help)
+    (cond (bytes_eq word (codes "version")) (Some version)
+    (cond (bytes_eq word (codes "obligations")) (Some obligations) None))))))
 
 -- a number that is not zero
 abbrev pub positive : Option ℕ → Option ℕ

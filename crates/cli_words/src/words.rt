@@ -34,6 +34,12 @@ pub enum Command<'a> {
     Upgrade,
     /// `watch`: the steps that the document's schedule names, read for what the proof of its program claims.
     Watch,
+    /// `help`: the commands.
+    Help,
+    /// `version`: the version of the program, and those of the language that it reads.
+    Version,
+    /// `obligations`: what is left to be shown for the document's proofs, as a script that solvers read.
+    Obligations,
 }
 
 /// The command that the words are, read by position. `None` where they are none.
@@ -62,6 +68,12 @@ fn read_one<'a>(word: &str) -> Option<Command<'a>>
         Some(Command::Upgrade)
     } else if word == "watch" {
         Some(Command::Watch)
+    } else if word == "help" {
+        Some(Command::Help)
+    } else if word == "version" {
+        Some(Command::Version)
+    } else if word == "obligations" {
+        Some(Command::Obligations)
     } else {
         None
     }

@@ -119,6 +119,7 @@ pending_same section_at d c e (Pending.Document r) on = record {
   core_is = on.core_is;
   number_is = on.number_is;
   section_is = on.section_is ∙ e;
+  places_is = on.places_is;
 }
 pending_same section_at d c e (Pending.Judge core judge) on = record {
   named = on.named;
@@ -176,6 +177,7 @@ document_read limit bytes p r is h =
       core_is = passed.pending.core_is;
       number_is = passed.pending.number_is;
       section_is = passed.pending.section_is;
+      places_is = passed.pending.places_is;
     }
 
 -- ---- a front with a section behind it

@@ -10,6 +10,7 @@ use Rattle.streamed_documents.specs.declared.found.Finding.{Finding}
 use Rattle.streamed_documents.specs.declared.found.JudgedDocument.{JudgedDocument}
 use Rattle.streamed_documents.specs.declared.found.ReadDocument.{ReadDocument}
 use Rattle.streamed_documents.specs.declared.found.Reading.{Reading}
+use Rattle.streamed_documents.specs.Places.{step_places}
 use Rattle.streamed_documents.specs.WellFormed.{IsWellFormed, IsFirstFault}
 
 -- the bytes are a document without a fault, with this core form, and this is the verdict on it with its certificates
@@ -42,6 +43,7 @@ pub record IsRead (most : ℕ) (bytes : List ℕ) (r : ReadDocument) : Type 0 wh
   pub core_is : r.core ≡ core_document document
   pub number_is : r.number_at ≡ document.number_at
   pub section_is : r.section_at ≡ section_place document.certificates
+  pub places_is : r.places ≡ step_places document
 
 abbrev pub IsReading : ℕ → List ℕ → Reading → Type 0
 IsReading most bytes (Reading.Refused flaw) = IsRefused most bytes flaw

@@ -11,6 +11,7 @@ use Rattle.event_judge.specs.Judges.{JudgeIsReady, JudgeStandsFor}
 use Rattle.streamed_documents.specs.declared.behind.Pending.{Pending}
 use Rattle.streamed_documents.specs.declared.fronts.Listener.{Listener}
 use Rattle.streamed_documents.specs.declared.found.ReadDocument.{ReadDocument}
+use Rattle.streamed_documents.specs.Places.{step_places}
 use Rattle.streamed_documents.specs.WellFormed.{document_fault}
 
 -- a judge was told these events more, and may be told others
@@ -60,6 +61,7 @@ pub record IsKeptOf (section_at : Option ℕ) (d : Document) (r : ReadDocument) 
   pub core_is : r.core ≡ core_document d
   pub number_is : r.number_at ≡ d.number_at
   pub section_is : r.section_at ≡ section_at
+  pub places_is : r.places ≡ step_places d
 
 -- the first fault of a document's names or expansion, or what is kept of it, or its judge
 abbrev pub IsPendingOn : Option ℕ → List CertEvent → Document → Pending → Type 0

@@ -3,6 +3,7 @@ pub mod Found
 pub mod Fronts
 pub mod Hearing
 pub mod Pairs
+pub mod Places
 pub mod Rests
 pub mod Slices
 pub mod Steps

@@ -5,7 +5,7 @@ use case_tables::Code;
 use core_terms::CDocument;
 use proof_plans::{Plan, StepFault};
 use std::alloc::AllocError;
-use unity_base::{Failed, Held};
+use unity_base::{Failed, Held, Seq};
 
 /// Why a text is no document without a fault.
 #[derive(Clone, Copy, Debug, PartialEq, Eq)]
@@ -48,6 +48,8 @@ pub struct ReadDocument {
     pub number_at: u64,
     /// The place of the word `certificates`, where there is a section.
     pub section_at: Option<u64>,
+    /// The place of each step's name, in the order of the document.
+    pub places: Seq<u64>,
 }
 
 /// What a text is read as.

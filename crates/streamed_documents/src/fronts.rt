@@ -16,6 +16,7 @@ ghost use Rattle.streamed_documents.specs.Rests.{IsOut};
 use crate::behind::{Pending, read_behind};
 use crate::cores::core_of;
 use crate::found::{Flaw, ReadDocument, SourceStop};
+use crate::places::step_places;
 use crate::rests::skimmed;
 use case_tables::Code;
 use event_judge::Judge;
@@ -98,10 +99,12 @@ fn pending_on(
                 Ok(Pending::Judge { core, judge })
             }
             Listener::Nobody => {
+                let places = step_places(alloc, &document)?;
                 let read = ReadDocument {
                     core: core.into_inner(),
                     number_at: document.number_at,
                     section_at: front.cut,
+                    places,
                 };
                 Ok(Pending::Document(Held::new(alloc, read)?))
             }

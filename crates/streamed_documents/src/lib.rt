@@ -7,6 +7,7 @@ mod cores;
 mod found;
 mod fronts;
 mod outcomes;
+mod places;
 mod rests;
 mod slices;
 mod sources;

@@ -2,8 +2,10 @@ pub mod Accepted
 pub mod OneAnswers
 pub mod Told
 pub mod Searched
+pub mod Listed
 pub mod SomeAnswers
 pub mod Shown
+pub mod Unread
 pub mod Upgraded
 pub mod Watched
 pub mod Streamed

@@ -16,12 +16,14 @@ use Rattle.fixed_correct.specs.from_run_correct.Traces.{source_system, first_sta
 use Rattle.fixed_correct.specs.from_run_correct.Answers.{IsReplay, IsUnknown}
 use Rattle.cli_texts.specs.from_proof_plans.declared.plans.Plan.{Plan}
 use Rattle.cli_texts.specs.from_proof_plans.declared.plans.StepFault.{StepFault}
+use Rattle.cli_texts.specs.from_proof_plans.Reaching.{Reach, reach_of}
 use Rattle.cli_texts.specs.from_proof_plans.Verdicts.{verdict_of}
 use Rattle.certificate_reading.specs.Certificates.{certificates_of}
 use Rattle.cli_texts.specs.Refusals.{fault_text, refusal_text}
 use Rattle.cli_texts.specs.Verdicts.{accepted_text, rejected_text}
 use Rattle.plain_quotients.specs.from_upgraded_texts.Upgraded.{upgraded_text}
-use Rattle.cli_words.specs.Requests.{check, prove, run, fixed, replay, demo, upgrade, watch}
+use Rattle.cli_words.specs.Requests.{check, prove, run, fixed, replay, demo, upgrade, watch, help, version}
+use Rattle.cli_words.specs.Requests.{obligations}
 use Rattle.trace_watch.specs.declared.tracing.Ending.{Ending}
 use Rattle.watch_schedules.specs.declared.error.WatchStop.{WatchStop}
 use Rattle.watch_correct.specs.Watched.{IsWatched, StopsWatching}
@@ -42,6 +44,7 @@ use Rattle.unity_cli.specs.Answer.Run as runs
 use Rattle.unity_cli.specs.Answer.Replay as replays
 use Rattle.unity_cli.specs.Answer.Watch.{ending_status, IsNotWatched, Watched}
 use Rattle.unity_cli.specs.Answer.Watch as watches
+use Rattle.unity_cli.specs.Answer.Obligations.{IsListed, IsStopped, Listed, told_text}
 use Rattle.unity_cli.specs.Laws.{OneAnswer}
 use Rattle.streamed_documents.proofs.FirstFaults.{no_first_fault, one_first_fault}
 
@@ -567,6 +570,57 @@ one_said bytes status other text more (ended d a r w s) (ended e b q z u) =
     let same = one_watched e a b text more (subst (λ x. IsWatched x a text) (read_once bytes d e r q) w) z in
     (s ∙ ap ending_status same.0 ∙ sym u, same.1)
 
+-- ---- what is left to be shown
+
+one_listed_text : (bytes text more : List ℕ) → IsListed bytes text → IsListed bytes more → text ≡ more
+one_listed_text bytes text more a b =
+    let same : a.document ≡ b.document =
+    one_document bytes a.document b.document a.read.reading.is_document b.read.reading.is_document in
+    let plans : ◌≡◌ {A = Reach} (Ok a.plan) (Ok b.plan) =
+    sym a.planned ∙ ap (λ d. reach_of (core_document d)) same ∙ b.planned in
+    let plan : a.plan ≡ b.plan = cc in
+    a.text_is ∙ ap (λ d. told_text bytes d a.plan) same
+    ∙ ap (λ p. told_text bytes b.document p) plan ∙ sym b.text_is
+
+one_stopped_text : (bytes text more : List ℕ) → IsStopped bytes text → IsStopped bytes more → text ≡ more
+one_stopped_text bytes text more a b =
+    let same : a.document ≡ b.document =
+    one_document bytes a.document b.document a.read.reading.is_document b.read.reading.is_document in
+    let stops : ◌≡◌ {A = Reach} (Err a.stop) (Err b.stop) =
+    sym a.planned ∙ ap (λ d. reach_of (core_document d)) same ∙ b.planned in
+    let stop : a.stop ≡ b.stop = cc in
+    a.text_is ∙ ap (λ d. rejected_text (core_document d).words a.stop.fault) same
+    ∙ ap (λ s. rejected_text (core_document b.document).words s.fault) stop ∙ sym b.text_is
+
+listed_not_stopped : (bytes text more : List ℕ) → IsListed bytes text → IsStopped bytes more → ⊥
+listed_not_stopped bytes text more a b =
+    let same : a.document ≡ b.document =
+    one_document bytes a.document b.document a.read.reading.is_document b.read.reading.is_document in
+    let never : ◌≡◌ {A = Reach} (Ok a.plan) (Err b.stop) =
+    sym a.planned ∙ ap (λ d. reach_of (core_document d)) same ∙ b.planned in
+    cc
+
+one_listed : (bytes : List ℕ) (status other : Status) (text more : List ℕ) → Listed bytes status text →
+    Listed bytes other more → (status ≡ other) × (text ≡ more)
+one_listed bytes Status.Done Status.Done text more a b = (refl, one_listed_text bytes text more a b)
+one_listed bytes Status.Done Status.Rejected text more a b = absurd (listed_not_stopped bytes text more a b)
+one_listed bytes Status.Done Status.BadDocument text more a b =
+    absurd (not_bad greatest_bare_size bytes more a.document a.read b)
+one_listed bytes Status.Rejected Status.Done text more a b = absurd (listed_not_stopped bytes more text b a)
+one_listed bytes Status.Rejected Status.Rejected text more a b = (refl, one_stopped_text bytes text more a b)
+one_listed bytes Status.Rejected Status.BadDocument text more a b =
+    absurd (not_bad greatest_bare_size bytes more a.document a.read b)
+one_listed bytes Status.BadDocument Status.Done text more a b =
+    absurd (not_bad greatest_bare_size bytes text b.document b.read a)
+one_listed bytes Status.BadDocument Status.Rejected text more a b =
+    absurd (not_bad greatest_bare_size bytes text b.document b.read a)
+one_listed bytes Status.BadDocument Status.BadDocument text more a b =
+    (refl, one_refused greatest_bare_size bytes text more a b)
+one_listed bytes Status.Done other text more a b = absurd b
+one_listed bytes Status.Rejected other text more a b = absurd b
+one_listed bytes Status.BadDocument other text more a b = absurd b
+one_listed bytes status other text more a b = absurd a
+
 pub one_answer : OneAnswer
 one_answer None any bytes status other text more a b = (a.0 ∙ sym b.0, a.1 ∙ sym b.1)
 one_answer (Some check) any bytes status other text more a b = one_checked bytes status other text more a b
@@ -580,3 +634,6 @@ one_answer (Some (demo places)) any bytes status other text more a b = absurd an
 one_answer (Some upgrade) any bytes status other text more a b = one_upgraded bytes status other text more a b
 one_answer (Some watch) any bytes status other text more a b =
     one_said bytes status other text more (said bytes status text a) (said bytes other more b)
+one_answer (Some help) any bytes status other text more a b = (a.0 ∙ sym b.0, a.1 ∙ sym b.1)
+one_answer (Some version) any bytes status other text more a b = (a.0 ∙ sym b.0, a.1 ∙ sym b.1)
+one_answer (Some obligations) any bytes status other text more a b = one_listed bytes status other text more a b

@@ -4,8 +4,7 @@ use Rattle.std.proofs.Common.{ap, ◌∙◌, subst}
 use Rattle.cli_texts.specs.from_proof_plans.declared.plans.Plan.{Plan}
 use Rattle.cli_texts.specs.Verdicts.{accepted_text}
 use Rattle.cli_ring.specs.Rings.{ring_bytes}
-use Rattle.cli_words.specs.declared.words.Command.{Command}
-use Rattle.cli_words.specs.Requests.{Request, check, demo, meant, watch}
+use Rattle.cli_words.specs.Requests.{Request, check, demo, watch}
 use Rattle.unity_cli.specs.declared.output.Answer.{Answer as Told}
 use Rattle.unity_cli.specs.declared.input.Input.{Input}
 use Rattle.unity_cli.specs.declared.status.Status.{Status}
@@ -13,13 +12,11 @@ use Rattle.unity_cli.specs.Status.{HasText}
 use Rattle.unity_cli.specs.Admitted.{greatest_bare_size}
 use Rattle.unity_cli.specs.Answer.Check.{IsAccepted}
 use Rattle.unity_cli.specs.Answer.Demo.{ring_budget, ring_line}
-use Rattle.unity_cli.specs.Answer.{reads_source, Answer}
+use Rattle.unity_cli.specs.Answer.{reads_source}
 use Rattle.unity_cli.specs.Answer.Prove.{Searched}
 use Rattle.unity_cli.specs.Answer.Demo.{Shown}
-use Rattle.unity_cli.specs.Answer.{Tells, TellsPart}
-use Rattle.unity_cli.specs.Answering.{ComesWith, Telling}
+use Rattle.unity_cli.specs.Answering.{ComesWith}
 use Rattle.unity_cli.specs.Input.{AreKept, IsInput}
-use Rattle.unity_cli.proofs.Told.{some_bytes}
 use Rattle.unity_cli.proofs.Searched.{are_kept}
 
 -- what is read of a ring's bytes is its document, and they are kept
@@ -88,39 +85,6 @@ shown_planned places words a found plan verdict text h comes e same is =
     shown_found places a verdict text h with_plan.0
     (subst (IsAccepted a.text.items) (sym same) with_plan.1) is
 
--- ---- whatever bytes are left
-
-module _ (asked : Option Request) (places : ℕ) (left old new : Option (List ℕ)) (status : Status)
-    (e : asked ≡ Some (demo places)) (tells : (bytes : List ℕ) → Telling (demo places) bytes old new status) where
-  pub shown_whole : HasText status → Tells asked left status old new
-  shown_whole h =
-      let some = some_bytes left in
-      let told = (tells some.0).whole h in
-      record {
-        text = told.0;
-        answer = record {
-          bytes = some.0;
-          were = some.1;
-          allowed = subst (λ a. Answer a some.0 status told.0) (sym e) told.1;
-        };
-        appends = told.2;
-      }
-
-  pub shown_part : status ≡ Status.WriteFault → TellsPart asked left old new
-  shown_part w =
-      let some = some_bytes left in
-      let told = (tells some.0).part w in
-      record {
-        status = told.0;
-        text = told.1;
-        answer = record {
-          bytes = some.0;
-          were = some.1;
-          allowed = subst (λ a. Answer a some.0 told.0 told.1) (sym e) told.2;
-        };
-        part = told.3;
-      }
-
 pub ring_is_no_check : (asked : Option Request) (places : ℕ) → asked ≡ Some (demo places) → asked ≡ Some check → ⊥
 ring_is_no_check asked places e f =
     let never : ◌≡◌ {A = Option Request} (Some (demo places)) (Some check) = sym e ∙ f in cc
@@ -133,20 +97,3 @@ pub ring_reads_nothing : (asked : Option Request) (places : ℕ) → asked ≡ S
     reads_source asked ≡ true → ⊥
 ring_reads_nothing asked places e f =
     let never : ◌≡◌ {A = Bool} false true = sym (ap reads_source e) ∙ f in cc
-
--- for all other commands the source is read
-pub others_read : (asked : Option Request) (command : Command) → asked ≡ Some (meant command) →
-    ((places : ℕ) → command ≡ Command.Demo places → ⊥) → reads_source asked ≡ false → ⊥
-others_read asked Command.Check e other f = let never : ◌≡◌ {A = Bool} true false = sym (ap reads_source e) ∙ f in cc
-others_read asked (Command.Prove budget) e other f =
-    let never : ◌≡◌ {A = Bool} true false = sym (ap reads_source e) ∙ f in cc
-others_read asked (Command.Run program steps) e other f =
-    let never : ◌≡◌ {A = Bool} true false = sym (ap reads_source e) ∙ f in cc
-others_read asked (Command.Fixed program steps) e other f =
-    let never : ◌≡◌ {A = Bool} true false = sym (ap reads_source e) ∙ f in cc
-others_read asked Command.Replay e other f = let never : ◌≡◌ {A = Bool} true false = sym (ap reads_source e) ∙ f in cc
-others_read asked (Command.Demo places) e other f = other places refl
-others_read asked Command.Upgrade e other f =
-    let never : ◌≡◌ {A = Bool} true false = sym (ap reads_source e) ∙ f in cc
-others_read asked Command.Watch e other f =
-    let never : ◌≡◌ {A = Bool} true false = sym (ap reads_source e) ∙ f in cc

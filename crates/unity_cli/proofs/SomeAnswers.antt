@@ -34,6 +34,7 @@ use Rattle.proof_script.specs.declared.plans.Proof.{Proof}
 use Rattle.cli_texts.specs.from_proof_plans.declared.plans.ScriptError.{ScriptError}
 use Rattle.proof_script.specs.Laws.{IsAnswered}
 use Rattle.proof_script.specs.Proving.{Finds}
+use Rattle.cli_texts.specs.from_proof_plans.Reaching.{Reach, reach_of}
 use Rattle.cli_texts.specs.from_proof_plans.Verdicts.{verdict_of}
 use Rattle.proof_script.proofs.SomeLaws.{some_finding}
 use Rattle.search_tree.proofs.EndsLaws.{search-ends}
@@ -44,8 +45,8 @@ use Rattle.certificate_reading.specs.Certificates.{certificates_of}
 use Rattle.cli_texts.specs.Refusals.{fault_text, refusal_text}
 use Rattle.cli_texts.specs.Verdicts.{accepted_text, rejected_text}
 use Rattle.plain_quotients.specs.from_upgraded_texts.Upgraded.{upgraded_text}
-use Rattle.cli_words.specs.Requests.{Request, check, prove, run, fixed, replay, demo, upgrade, watch}
-use Rattle.cli_words.specs.Requests.{request_of}
+use Rattle.cli_words.specs.Requests.{Request, check, prove, run, fixed, replay, demo, upgrade, watch, help, version}
+use Rattle.cli_words.specs.Requests.{obligations, request_of}
 use Rattle.cli_words.proofs.Asking.{requests_are_asked}
 use Rattle.trace_watch.specs.declared.tracing.Ending.{Ending}
 use Rattle.watch_correct.specs.Watched.{HasManyCases, HasNoPlan, HasNoProof, Replay, Started}
@@ -56,6 +57,8 @@ use Rattle.unity_cli.specs.Admitted.{greatest_size, greatest_bare_size, IsAdmitt
 use Rattle.unity_cli.specs.Answer.Check.{Checked}
 use Rattle.unity_cli.specs.Answer.Prove.{Searched}
 use Rattle.unity_cli.specs.Answer.Demo.{ring_budget, ring_line}
+use Rattle.unity_cli.specs.Answer.Constants.{help_text, version_text}
+use Rattle.unity_cli.specs.Answer.Obligations.{told_text}
 use Rattle.unity_cli.specs.Answer.Run.{IsTrace, no_program}
 use Rattle.unity_cli.specs.Answer.Fixed.{IsFixedTrace}
 use Rattle.unity_cli.specs.Answer.Replay.{no_schedule, unknown}
@@ -554,6 +557,36 @@ watches bytes (inl (d, read)) = by_program (scheduled_program (core_document d))
     by_program (Some p) e =
         watched_schedule bytes d read p (scheduled_source d read.reading.named read.reading.expands p e)
 
+-- ---- what is left to be shown
+
+listed : (bytes : List ℕ) → ReadOrBad greatest_bare_size bytes → HasAnswer (Some obligations) bytes
+listed bytes (inr (text, bad)) = (Status.BadDocument, text, bad)
+listed bytes (inl (d, read)) = by_reach (reach_of (core_document d)) refl
+  where
+    by_reach : (r : Reach) → reach_of (core_document d) ≡ r → HasAnswer (Some obligations) bytes
+    by_reach (Ok plan) e = (
+      Status.Done,
+      told_text bytes d plan,
+      record {
+        document = d;
+        read = read;
+        plan = plan;
+        planned = e;
+        text_is = refl;
+      },
+    )
+    by_reach (Err stop) e = (
+      Status.Rejected,
+      rejected_text (core_document d).words stop.fault,
+      record {
+        document = d;
+        read = read;
+        stop = stop;
+        planned = e;
+        text_is = refl;
+      },
+    )
+
 -- ---- all requests
 
 pub limited_have_answer : LimitedHaveAnswer
@@ -571,6 +604,9 @@ limited_have_answer (Some (demo places)) limited bytes =
     (read_or_bad greatest_bare_size (ring_bytes places)))
 limited_have_answer (Some upgrade) limited bytes = upgrades bytes (read_or_bad greatest_bare_size bytes)
 limited_have_answer (Some watch) limited bytes = watches bytes (read_or_bad greatest_size bytes)
+limited_have_answer (Some help) limited bytes = (Status.Done, help_text, (refl, refl))
+limited_have_answer (Some version) limited bytes = (Status.Done, version_text, (refl, refl))
+limited_have_answer (Some obligations) limited bytes = listed bytes (read_or_bad greatest_bare_size bytes)
 
 -- words ask for no more
 words_are_limited : (words : List (List ℕ)) → IsLimited (request_of words)
@@ -586,6 +622,9 @@ words_are_limited words = by_request (request_of words) refl
     by_request (Some (demo places)) e = tt
     by_request (Some upgrade) e = tt
     by_request (Some watch) e = tt
+    by_request (Some help) e = tt
+    by_request (Some version) e = tt
+    by_request (Some obligations) e = tt
 
 pub some_answer : SomeAnswer
 some_answer words bytes = limited_have_answer (request_of words) (words_are_limited words) bytes

@@ -86,6 +86,7 @@ document_input reading r e most bytes h =
       core_is = is.core_is;
       number_is = is.number_is;
       section_is = is.section_is;
+      places_is = is.places_is;
     }
 
 -- ---- the form of what is written
@@ -197,3 +198,9 @@ others_no_check asked Command.Upgrade e other f =
     let never : ◌≡◌ {A = Option Request} (Some (meant Command.Upgrade)) (Some check) = sym e ∙ f in cc
 others_no_check asked Command.Watch e other f =
     let never : ◌≡◌ {A = Option Request} (Some (meant Command.Watch)) (Some check) = sym e ∙ f in cc
+others_no_check asked Command.Help e other f =
+    let never : ◌≡◌ {A = Option Request} (Some (meant Command.Help)) (Some check) = sym e ∙ f in cc
+others_no_check asked Command.Version e other f =
+    let never : ◌≡◌ {A = Option Request} (Some (meant Command.Version)) (Some check) = sym e ∙ f in cc
+others_no_check asked Command.Obligations e other f =
+    let never : ◌≡◌ {A = Option Request} (Some (meant Command.Obligations)) (Some check) = sym e ∙ f in cc

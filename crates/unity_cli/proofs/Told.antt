@@ -99,7 +99,7 @@ input_told asked request t input old new status is same told =
 
 -- ---- telling
 
-exact_told : (request : Request) (bytes : List ℕ) (old new : Option (List ℕ)) (status meant : Status) (text : List ℕ) →
+pub exact_told : (request : Request) (bytes : List ℕ) (old new : Option (List ℕ)) (status meant : Status) (text : List ℕ) →
     Answer (Some request) bytes meant text → status ≡ meant → Appends old new text →
     (meant ≡ Status.WriteFault → ⊥) → Telling request bytes old new status
 exact_told request bytes old new status meant text answer same appends never = record {
@@ -119,7 +119,7 @@ bad_told request bytes old mid new status text answer same t = record {
   part = λ w. (Status.BadDocument, text, answer, subst (λ o. AppendsPart o new text) same (t.part w));
 }
 
-part_told : (request : Request) (bytes : List ℕ) (old mid new : Option (List ℕ)) (status meant : Status)
+pub part_told : (request : Request) (bytes : List ℕ) (old mid new : Option (List ℕ)) (status meant : Status)
     (text : List ℕ) → Answer (Some request) bytes meant text → AppendsPart old mid text → new ≡ mid →
     status ≡ Status.WriteFault → Telling request bytes old new status
 part_told request bytes old mid new status meant text answer part same e = record {

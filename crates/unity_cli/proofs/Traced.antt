@@ -1,6 +1,7 @@
 -- What the commands whose answer is a trace have in common.
 use Rattle.std.proofs.Common.{ℕ, List, Some}
-use Rattle.cli_words.specs.Requests.{Request, check, prove, run, fixed, replay, demo, upgrade, watch}
+use Rattle.cli_words.specs.Requests.{Request, check, prove, run, fixed, replay, demo, upgrade, watch, help, version}
+use Rattle.cli_words.specs.Requests.{obligations}
 use Rattle.unity_cli.specs.declared.input.Input.{Input}
 use Rattle.unity_cli.specs.declared.status.Status.{Status}
 use Rattle.unity_cli.specs.Admitted.{greatest_size, IsBad}
@@ -21,6 +22,9 @@ traced_input replay t bytes input is = is
 traced_input (demo places) t bytes input is = absurd t
 traced_input upgrade t bytes input is = absurd t
 traced_input watch t bytes input is = absurd t
+traced_input help t bytes input is = absurd t
+traced_input version t bytes input is = absurd t
+traced_input obligations t bytes input is = absurd t
 
 -- each says the same of what is no document
 pub traced_bad : (request : Request) → AsksForTrace request → (bytes text : List ℕ) → IsBad greatest_size bytes text →
@@ -33,3 +37,6 @@ traced_bad replay t bytes text bad = replays.IsNotReplayed.bad bad
 traced_bad (demo places) t bytes text bad = absurd t
 traced_bad upgrade t bytes text bad = absurd t
 traced_bad watch t bytes text bad = absurd t
+traced_bad help t bytes text bad = absurd t
+traced_bad version t bytes text bad = absurd t
+traced_bad obligations t bytes text bad = absurd t

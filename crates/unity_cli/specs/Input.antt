@@ -7,6 +7,7 @@ use Rattle.unity_cli.specs.declared.input.Input.{Input}
 use Rattle.streamed_documents.specs.declared.found.ReadDocument.{ReadDocument}
 use Rattle.unity_cli.specs.declared.input.Text.{Text}
 use Rattle.streamed_documents.specs.Found.{section_place}
+use Rattle.streamed_documents.specs.Places.{step_places}
 use Rattle.streamed_documents.specs.WellFormed.{IsFirstFault}
 use Rattle.unity_cli.specs.Admitted.{IsAdmitted}
 
@@ -17,6 +18,7 @@ pub record IsAdmittedAs (most : ℕ) (bytes : List ℕ) (r : ReadDocument) : Typ
   pub core_is : r.core ≡ core_document document
   pub number_is : r.number_at ≡ document.number_at
   pub section_is : r.section_at ≡ section_place document.certificates
+  pub places_is : r.places ≡ step_places document
 
 -- what the bytes are: more than so many, or no document, or a document
 abbrev pub IsInput : ℕ → List ℕ → Input → Type 0

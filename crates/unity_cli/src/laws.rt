@@ -1,7 +1,9 @@
 // Laws of the answers. The functions do nothing: they state them.
+ghost use Rattle.solver_scripts.specs.Laws.{DivisionIsStandard, ScriptMeans, UnsatIsValid};
 ghost use Rattle.soundness.specs.Layers.{LayersProject};
 ghost use Rattle.unity_cli.specs.Laws.{OneAnswer, SomeAnswer, LimitedHaveAnswer, FollowedCarry};
 
+use solver_scripts::script_laws;
 use soundness::projection_laws;
 
 /// Words and bytes have some status and text; and they have no other, but for words for a search, whose certificates
@@ -22,4 +24,15 @@ pub fn layers_project()
     ensures carried { FollowedCarry }
 {
     projection_laws();
+}
+
+/// An assignment meets both asserts of an obligation, as `obligations` writes them, exactly where it gives each variable
+/// a number in its range, and the obligation's form is false there. So a solver that says `unsat` of all says that all
+/// are valid, whoever it is. Quotients and remainders are those of the standard.
+pub fn scripts_mean()
+    ensures means { ScriptMeans }
+    ensures unsat { UnsatIsValid }
+    ensures division { DivisionIsStandard }
+{
+    script_laws();
 }

@@ -3,10 +3,12 @@
 
 mod check;
 mod commands;
+mod constants;
 mod demo;
 mod fixed;
 mod input;
 mod laws;
+mod listing;
 mod output;
 mod process;
 mod prove;
@@ -20,7 +22,7 @@ mod upgrade;
 mod watch;
 
 pub use cli_ring::make_demo;
-pub use laws::{layers_project, one_answer};
+pub use laws::{layers_project, one_answer, scripts_mean};
 pub use process::exit_for;
 pub use status::Status;
 pub use top::unity;

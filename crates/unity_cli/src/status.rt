@@ -8,9 +8,10 @@ pub enum Status {
     /// `run`, `fixed`, `replay`: each step was defined.
     /// `prove`: certificates were found for all obligations.
     /// `watch`: nothing is violated on the trace.
+    /// `obligations`: each step follows its rule.
     Done = 0,
     /// `check`: a step does not follow its rule, or a certificate is missing, one too many, or fails.
-    /// `prove`, `watch`: a step does not follow its rule, or a proof has no `defined` step.
+    /// `prove`, `watch`, `obligations`: a step does not follow its rule, or a proof has no `defined` step.
     Rejected = 1,
     /// The bytes are no document, or none that the command can use.
     BadDocument = 2,

@@ -16,6 +16,7 @@ ghost use Rattle.trace_watch.specs.declared.tracing.Ending.{Ending};
 
 use crate::check::check_source;
 use crate::commands::{most_bytes, write_command};
+use crate::constants::{constant_of, write_constant};
 use crate::demo::write_demo;
 use crate::input::read_input;
 use crate::status::Status;
@@ -70,7 +71,7 @@ pub fn unity<S: Source, K: Sink>(
     ensures kept { result ≡ Status.Violated → asked words.now ≡ Some watch → (bytes : List ℕ) →
         S.left src.old ≡ Some bytes → FollowsTheRules bytes → ⊥ }
 
-    // For words that are no command, and for a ring, the source is not read.
+    // For words that are no command, for a ring, and for a text that is always the same, the source is not read.
     ensures untouched { reads_source (asked words.now) ≡ false → src.new ≡ src.old }
     ensures not_read { reads_source (asked words.now) ≡ false → result ≢ Status.ReadFault }
 
@@ -89,6 +90,9 @@ pub fn unity<S: Source, K: Sink>(
             Err(_) => Status::WriteFault,
         };
     };
+    if let Some(text) = constant_of(&command) {
+        return write_constant(text, out);
+    }
     if let Command::Demo { places } = command {
         return write_demo(alloc, places, out);
     }

@@ -54,6 +54,7 @@ fn trace_document<K: Sink>(
         Command::Fixed { program, steps } => fixed_document(alloc, program, *steps, reading, out),
         Command::Replay => replay_document(alloc, reading, out),
         Command::Check | Command::Prove { .. } | Command::Demo { .. } => unreachable!(),
-        Command::Upgrade | Command::Watch => unreachable!(),
+        Command::Upgrade | Command::Watch | Command::Obligations => unreachable!(),
+        Command::Help | Command::Version => unreachable!(),
     }
 }

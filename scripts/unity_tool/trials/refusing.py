@@ -7,7 +7,7 @@ from unity_tool.trials.cases import Case, faults, other_answer, other_status, si
 
 READ_FAULT, WRITE_FAULT = 7, 8
 READING = ["check", "prove 1000000", "run Count 5", "fixed Count 5", "replay", "watch", "upgrade"]
-WRITING = READING + ["demo 2"]
+WRITING = READING + ["demo 2", "help", "version"]
 
 # a test of the ground that runs where its Nth allocation is refused
 LIST_TEST, LIST_CRATE, LIST_ALLOCATIONS = "keeps_the_list_where_insert_is_refused", "examples_reading", (1, 2, 3)

@@ -1,7 +1,8 @@
 use Rattle.std.proofs.Common.{rules, ◌≡◌, ◌<◌, ◌++◌, ◌∙◌, ℕ, List, [], Option, None, Some, length, ap, subst}
 use Rattle.std.proofs.lemmas.List.{take_at}
 use Rattle.unity_syntax.specs.declared.document.Document.{Document}
-use Rattle.cli_words.specs.Requests.{Request, check, prove, run, fixed, replay, demo, upgrade, watch}
+use Rattle.cli_words.specs.Requests.{Request, check, prove, run, fixed, replay, demo, upgrade, watch, help, version}
+use Rattle.cli_words.specs.Requests.{obligations}
 use Rattle.unity_cli.specs.declared.status.Status.{Status}
 use Rattle.unity_cli.specs.Status.{HasText}
 use Rattle.unity_cli.specs.Answer.{IsSaidOf, Tells}
@@ -29,6 +30,9 @@ said_of (Some replay) left source was = tt
 said_of (Some (demo places)) left source was = tt
 said_of (Some upgrade) left source was = tt
 said_of (Some watch) left source was = tt
+said_of (Some help) left source was = tt
+said_of (Some version) left source was = tt
+said_of (Some obligations) left source was = tt
 
 told : (asked : Option Request) (left : Option (List ℕ)) (source : List ℕ) (status : Status) (old new text : List ℕ) →
     (HasText status → IsSaidOf asked left → Tells asked left status (Some old) (Some new)) → HasText status →

@@ -25,3 +25,12 @@ returns-in-Watch-clause-told g c =
     input_told (meant c.args.command.now) _ c.args.text c.input_of.result (g.K.Sink.written c.args.out.now)
     (g.K.Sink.written c.write_watch.new.out) c.write_watch.result (ap meant c.in-Watch.is)
     c.input_of.ensures c.write_watch.ensures.told
+
+pub returns-in-Obligations-clause-told : goal.returns-in-Obligations-clause-told
+returns-in-Obligations-clause-told g c = λ bytes text.
+    let is = ap meant c.in-Obligations.is in
+    subst (λ r. Telling r bytes (g.K.Sink.written c.args.out.now) (g.K.Sink.written c.write_listing.new.out)
+    c.write_listing.result) (sym is)
+    (c.write_listing.ensures.told bytes
+    (subst (λ r. IsInput (most_bytes (Some r)) bytes c.args.text.input) is text.input_is)
+    (subst (λ kept. AreKept c.args.text.input kept bytes) (sym c.deref-in-Obligations.ensures.value) text.kept))

@@ -1,5 +1,6 @@
 use Rattle.std.proofs.Common.{◌∙◌, ◌⊎◌, rules, sym, ap, subst, Some, option_map}
 use Rattle.std.specs.Io.KnownBytes.{IsAtEnd}
+use Rattle.std.specs.Option.{option_copied}
 use Rattle.unity_base.specs.Streams.{IsLongerThan}
 use Rattle.unity_cli.specs.Answer.{most_bytes}
 use Rattle.unity_cli.specs.Input.{IsTextOf}
@@ -8,8 +9,10 @@ use Rattle.unity_cli.proofs.Streamed.{streamed_whole, streamed_part, streamed_fo
 use Rattle.unity_cli.proofs.Streamed.{streamed_runs, streamed_starts, check_is_no_watch, check_reads}
 use Rattle.unity_cli.proofs.Streamed.{others_no_check}
 use Rattle.unity_cli.proofs.Watched.{done_kept, done_unviolated, done_violated}
-use Rattle.unity_cli.proofs.Shown.{shown_whole, shown_part, ring_is_no_check, ring_is_no_watch, others_read}
-use Rattle.cli_words.specs.Requests.{meant, asked}
+use Rattle.unity_cli.proofs.Shown.{ring_is_no_check, ring_is_no_watch}
+use Rattle.unity_cli.proofs.Unread.{unread_whole, unread_part, others_read, constant_none}
+use Rattle.unity_cli.proofs.Unread.{constant_is_no_check, constant_is_no_watch, constant_reads_nothing}
+use Rattle.cli_words.specs.Requests.{asked, demo, meant}
 use Rattle.unity_cli.proofs.top.unity.Goals as goal
 
 pub returns-in-Ok-clause-answer : goal.returns-in-Ok-clause-answer
@@ -27,16 +30,98 @@ returns-in-Err-clause-part g c = λ _ _. record {
   part = c.in-Err.ensures.part;
 }
 
+pub returns-in-Some-constant_of-clause-answer : goal.returns-in-Some-constant_of-clause-answer
+returns-in-Some-constant_of-clause-answer g c = λ has said.
+    unread_whole (asked c.args.words.now) (meant c.in-Some.command) (g.S.Source.left c.args.src.now)
+    (g.K.Sink.written c.args.out.now) (g.K.Sink.written c.write_constant.new.out) c.write_constant.result
+    (sym c.read_words.ensures.asked ∙ ap (option_map meant) c.in-Some.is)
+    (c.write_constant.ensures.told (meant c.in-Some.command)
+    (sym c.constant_of.ensures ∙ ap option_copied c.in-Some-constant_of.is)) has
+
+pub returns-in-Some-constant_of-clause-part : goal.returns-in-Some-constant_of-clause-part
+returns-in-Some-constant_of-clause-part g c = λ fault said.
+    unread_part (asked c.args.words.now) (meant c.in-Some.command) (g.S.Source.left c.args.src.now)
+    (g.K.Sink.written c.args.out.now) (g.K.Sink.written c.write_constant.new.out) c.write_constant.result
+    (sym c.read_words.ensures.asked ∙ ap (option_map meant) c.in-Some.is)
+    (c.write_constant.ensures.told (meant c.in-Some.command)
+    (sym c.constant_of.ensures ∙ ap option_copied c.in-Some-constant_of.is)) fault
+
+pub returns-in-Some-constant_of-clause-follows : goal.returns-in-Some-constant_of-clause-follows
+returns-in-Some-constant_of-clause-follows g c = λ _ is_check. absurd (constant_is_no_check (asked c.args.words.now)
+    (meant c.in-Some.command) c.in-Some-constant_of.text.now
+    (sym c.read_words.ensures.asked ∙ ap (option_map meant) c.in-Some.is)
+    (sym c.constant_of.ensures ∙ ap option_copied c.in-Some-constant_of.is) is_check)
+
+pub returns-in-Some-constant_of-clause-safe : goal.returns-in-Some-constant_of-clause-safe
+returns-in-Some-constant_of-clause-safe g c = λ _ is_check. absurd (constant_is_no_check (asked c.args.words.now)
+    (meant c.in-Some.command) c.in-Some-constant_of.text.now
+    (sym c.read_words.ensures.asked ∙ ap (option_map meant) c.in-Some.is)
+    (sym c.constant_of.ensures ∙ ap option_copied c.in-Some-constant_of.is) is_check)
+
+pub returns-in-Some-constant_of-clause-bounds : goal.returns-in-Some-constant_of-clause-bounds
+returns-in-Some-constant_of-clause-bounds g c = λ _ is_check. absurd (constant_is_no_check (asked c.args.words.now)
+    (meant c.in-Some.command) c.in-Some-constant_of.text.now
+    (sym c.read_words.ensures.asked ∙ ap (option_map meant) c.in-Some.is)
+    (sym c.constant_of.ensures ∙ ap option_copied c.in-Some-constant_of.is) is_check)
+
+pub returns-in-Some-constant_of-clause-runs : goal.returns-in-Some-constant_of-clause-runs
+returns-in-Some-constant_of-clause-runs g c = λ _ is_check. absurd (constant_is_no_check (asked c.args.words.now)
+    (meant c.in-Some.command) c.in-Some-constant_of.text.now
+    (sym c.read_words.ensures.asked ∙ ap (option_map meant) c.in-Some.is)
+    (sym c.constant_of.ensures ∙ ap option_copied c.in-Some-constant_of.is) is_check)
+
+pub returns-in-Some-constant_of-clause-starts : goal.returns-in-Some-constant_of-clause-starts
+returns-in-Some-constant_of-clause-starts g c = λ _ is_check. absurd (constant_is_no_check (asked c.args.words.now)
+    (meant c.in-Some.command) c.in-Some-constant_of.text.now
+    (sym c.read_words.ensures.asked ∙ ap (option_map meant) c.in-Some.is)
+    (sym c.constant_of.ensures ∙ ap option_copied c.in-Some-constant_of.is) is_check)
+
+pub returns-in-Some-constant_of-clause-form : goal.returns-in-Some-constant_of-clause-form
+returns-in-Some-constant_of-clause-form g c = λ _ is_check. absurd (constant_is_no_check (asked c.args.words.now)
+    (meant c.in-Some.command) c.in-Some-constant_of.text.now
+    (sym c.read_words.ensures.asked ∙ ap (option_map meant) c.in-Some.is)
+    (sym c.constant_of.ensures ∙ ap option_copied c.in-Some-constant_of.is) is_check)
+
+pub returns-in-Some-constant_of-clause-part_form : goal.returns-in-Some-constant_of-clause-part_form
+returns-in-Some-constant_of-clause-part_form g c = λ _ is_check. absurd (constant_is_no_check (asked c.args.words.now)
+    (meant c.in-Some.command) c.in-Some-constant_of.text.now
+    (sym c.read_words.ensures.asked ∙ ap (option_map meant) c.in-Some.is)
+    (sym c.constant_of.ensures ∙ ap option_copied c.in-Some-constant_of.is) is_check)
+
+pub returns-in-Some-constant_of-clause-violated : goal.returns-in-Some-constant_of-clause-violated
+returns-in-Some-constant_of-clause-violated g c = λ _ is_watch. absurd (constant_is_no_watch (asked c.args.words.now)
+    (meant c.in-Some.command) c.in-Some-constant_of.text.now
+    (sym c.read_words.ensures.asked ∙ ap (option_map meant) c.in-Some.is)
+    (sym c.constant_of.ensures ∙ ap option_copied c.in-Some-constant_of.is) is_watch)
+
+pub returns-in-Some-constant_of-clause-unviolated : goal.returns-in-Some-constant_of-clause-unviolated
+returns-in-Some-constant_of-clause-unviolated g c = λ _ is_watch. absurd (constant_is_no_watch (asked c.args.words.now)
+    (meant c.in-Some.command) c.in-Some-constant_of.text.now
+    (sym c.read_words.ensures.asked ∙ ap (option_map meant) c.in-Some.is)
+    (sym c.constant_of.ensures ∙ ap option_copied c.in-Some-constant_of.is) is_watch)
+
+pub returns-in-Some-constant_of-clause-kept : goal.returns-in-Some-constant_of-clause-kept
+returns-in-Some-constant_of-clause-kept g c = λ _ is_watch. absurd (constant_is_no_watch (asked c.args.words.now)
+    (meant c.in-Some.command) c.in-Some-constant_of.text.now
+    (sym c.read_words.ensures.asked ∙ ap (option_map meant) c.in-Some.is)
+    (sym c.constant_of.ensures ∙ ap option_copied c.in-Some-constant_of.is) is_watch)
+
+pub returns-in-Some-constant_of-clause-end : goal.returns-in-Some-constant_of-clause-end
+returns-in-Some-constant_of-clause-end g c = λ reads. absurd (constant_reads_nothing (asked c.args.words.now)
+    (meant c.in-Some.command) c.in-Some-constant_of.text.now
+    (sym c.read_words.ensures.asked ∙ ap (option_map meant) c.in-Some.is)
+    (sym c.constant_of.ensures ∙ ap option_copied c.in-Some-constant_of.is) reads)
+
 pub returns-in-Demo-clause-answer : goal.returns-in-Demo-clause-answer
 returns-in-Demo-clause-answer g c = λ has said.
-    shown_whole (asked c.args.words.now) c.in-Demo.places (g.S.Source.left c.args.src.now)
+    unread_whole (asked c.args.words.now) (demo c.in-Demo.places) (g.S.Source.left c.args.src.now)
     (g.K.Sink.written c.args.out.now) (g.K.Sink.written c.write_demo.new.out) c.write_demo.result
     (sym c.read_words.ensures.asked ∙ ap (option_map meant) c.in-Some.is ∙ ap (λ x. Some (meant x)) c.in-Demo.is)
     c.write_demo.ensures.told has
 
 pub returns-in-Demo-clause-part : goal.returns-in-Demo-clause-part
 returns-in-Demo-clause-part g c = λ fault said.
-    shown_part (asked c.args.words.now) c.in-Demo.places (g.S.Source.left c.args.src.now)
+    unread_part (asked c.args.words.now) (demo c.in-Demo.places) (g.S.Source.left c.args.src.now)
     (g.K.Sink.written c.args.out.now) (g.K.Sink.written c.write_demo.new.out) c.write_demo.result
     (sym c.read_words.ensures.asked ∙ ap (option_map meant) c.in-Some.is ∙ ap (λ x. Some (meant x)) c.in-Demo.is)
     c.write_demo.ensures.told fault
@@ -168,22 +253,26 @@ returns-in-Demo-clause-part_form g c = λ fault is_check. absurd (ring_is_no_che
 pub returns-in-Ok-read_input-clause-untouched : goal.returns-in-Ok-read_input-clause-untouched
 returns-in-Ok-read_input-clause-untouched g c = λ unread. absurd (others_read (asked c.args.words.now)
     c.in-Some.command (sym c.read_words.ensures.asked ∙ ap (option_map meant) c.in-Some.is)
-    c.in_default-command.not-Demo unread)
+    c.in_default-command.not-Demo (constant_none (meant c.in-Some.command) c.constant_of.result c.constant_of.ensures
+    c.in_default-constant_of.not-Some) unread)
 
 pub returns-in-Ok-read_input-clause-not_read : goal.returns-in-Ok-read_input-clause-not_read
 returns-in-Ok-read_input-clause-not_read g c = λ unread fault. others_read (asked c.args.words.now)
     c.in-Some.command (sym c.read_words.ensures.asked ∙ ap (option_map meant) c.in-Some.is)
-    c.in_default-command.not-Demo unread
+    c.in_default-command.not-Demo (constant_none (meant c.in-Some.command) c.constant_of.result c.constant_of.ensures
+    c.in_default-constant_of.not-Some) unread
 
 pub returns-in-Err-read_input-clause-untouched : goal.returns-in-Err-read_input-clause-untouched
 returns-in-Err-read_input-clause-untouched g c = λ unread. absurd (others_read (asked c.args.words.now)
     c.in-Some.command (sym c.read_words.ensures.asked ∙ ap (option_map meant) c.in-Some.is)
-    c.in_default-command.not-Demo unread)
+    c.in_default-command.not-Demo (constant_none (meant c.in-Some.command) c.constant_of.result c.constant_of.ensures
+    c.in_default-constant_of.not-Some) unread)
 
 pub returns-in-Err-read_input-clause-not_read : goal.returns-in-Err-read_input-clause-not_read
 returns-in-Err-read_input-clause-not_read g c = λ unread fault. others_read (asked c.args.words.now)
     c.in-Some.command (sym c.read_words.ensures.asked ∙ ap (option_map meant) c.in-Some.is)
-    c.in_default-command.not-Demo unread
+    c.in_default-command.not-Demo (constant_none (meant c.in-Some.command) c.constant_of.result c.constant_of.ensures
+    c.in_default-constant_of.not-Some) unread
 
 pub returns-in-Ok-read_input-clause-answer : goal.returns-in-Ok-read_input-clause-answer
 returns-in-Ok-read_input-clause-answer g c = λ has said.

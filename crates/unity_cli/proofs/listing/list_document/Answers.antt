@@ -1,0 +1,6 @@
+use Rattle.unity_cli.proofs.Searched.{searched_core}
+use Rattle.unity_cli.proofs.listing.list_document.Goals as goal
+
+pub plan_by_rules-requires : goal.plan_by_rules-requires
+plan_by_rules-requires g c =
+    record { document = searched_core c.args.bytes.now c.args.reading.now c.requires }
