@@ -50,8 +50,9 @@ QUESTIONS = [
     ("run Both 5", "union_of_two"), ("run None 3", "count"), ("run Over 3", "past_the_end"), ("fixed Count 5", "count"),
     ("fixed Over 3", "past_the_end"), ("replay", "race"), ("replay", "past_the_end"), ("replay", "count"),
     ("watch", "race"), ("watch", "lost_update_mended"), ("watch", "past_the_end"), ("watch", "count"),
-    ("upgrade", "count"), ("upgrade", "count_wrong_sum"), ("upgrade", "unknown_name"), ("demo 2", "count"),
-    ("demo 1", "count"), ("help", "count"), ("version", "count"),
+    ("upgrade", "count"), ("upgrade", "count_wrong_sum"), ("upgrade", "unknown_name"), ("obligations", "count"),
+    ("obligations", "mistakes/no_defined"), ("obligations", "unknown_name"), ("demo 2", "count"), ("demo 1", "count"),
+    ("help", "count"), ("version", "count"),
 ]
 
 

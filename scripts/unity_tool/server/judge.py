@@ -16,7 +16,7 @@ from unity_tool.program import unity
 from unity_tool.server import told
 from unity_tool.server.texts import shown
 
-BUDGET = 100000
+BUDGET = 300000
 # so often at most the rest is asked again, and of a longer text the answer alone is said
 MOST_AGAIN, MOST_EXPLAINED = 12, 1000000
 ERROR, WARNING, INFORMATION = 1, 2, 3

@@ -40,13 +40,13 @@ def plan_of(latin):
 
 def steps_of(plan):
     """The steps of a plan, in order."""
-    found, first = [], 1
+    found, first, places = [], 1, {}
     for step in plan.document.steps():
         try:
             each = plan.obligations(step)
         except (Exception, SystemExit):  # pylint: disable=broad-except
             each = []
-        says = [(it.says, origin(plan, step, it)) for it in each[:MOST_SHOWN]]
+        says = [(it.says, origin(plan, step, it, places)) for it in each[:MOST_SHOWN]]
         found.append(Told(step.program, step.name, step.kind, step.start, step.end, first, len(each), says,
                           [named(step, ref) for ref in step.using],
                           [named(step, ref) for ref in step.using + list(refs_of(step.rule))]))
@@ -58,10 +58,14 @@ def named(step, ref):
     return "%s.%s" % (ref.program or step.program, ref.word)
 
 
-def origin(plan, step, obligation):
-    """Where an obligation comes from: the byte of the statement's label, of the term, or of the step."""
+def origin(plan, step, obligation, places):
+    """Where an obligation comes from: the byte of the statement's label, of the term, or of the step. Labels that were
+    looked for are kept in `places`."""
     if obligation.inst:
-        return label_place(plan.document, step.program, obligation.inst.partition("[")[0]) or step.start
+        key = step.program, obligation.inst.partition("[")[0]
+        if key not in places:
+            places[key] = label_place(plan.document, *key)
+        return places[key] or step.start
     term = getattr(obligation, "term", None)
     return term.start if term else step.start
 

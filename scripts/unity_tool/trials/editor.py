@@ -87,9 +87,9 @@ class Editor:
     # documents
 
     def open(self, uri, text):
-        self.versions[uri] = 1
+        self.versions[uri] = self.versions.get(uri, 0) + 1
         self.tell("textDocument/didOpen", {"textDocument": {
-            "uri": uri, "languageId": "unity", "version": 1, "text": text}})
+            "uri": uri, "languageId": "unity", "version": self.versions[uri], "text": text}})
 
     def change(self, uri, text):
         self.versions[uri] += 1

@@ -1,19 +1,15 @@
 """The language server: a scripted session over all examples, with mistakes, on prefixes as they are typed, and on what
 is no document."""
-import contextlib
-import io
-import json
 import os
 import re
 
-from unity_tool import why
-from unity_tool.server.judge import BUDGET
 from unity_tool.trials.asking import unity
 from unity_tool.trials.cases import Case
 from unity_tool.trials.documents import documents
-from unity_tool.trials.editor import Editor, Gone
+from unity_tool.trials.editor import Editor
+from unity_tool.trials.prefixes import FOLDERS
+from unity_tool.trials.within import outside, place_by_why, wrong_place
 
-FOLDERS = ("examples", "examples/mistakes", "examples/causes")
 # so many prefixes of each document are typed
 PREFIXES = 12
 HALF_TYPED = ["", "unity", "unity 1\nprogram", "unity 1\nproof P\n  a(i : 0..", "\x00\x01\udc80", "é 😀 # ü\n" * 3,
@@ -24,76 +20,19 @@ def uri_of(document):
     return "file:///" + document.path
 
 
-def lines_of(text):
-    return [len(line.encode("utf-16-le")) // 2 for line in text.split("\n")]
-
-
-def ranges_in(value):
-    """All ranges in an answer."""
-    if isinstance(value, dict):
-        if set(value) == {"start", "end"} and isinstance(value["start"], dict):
-            yield value
-        else:
-            for one in value.values():
-                yield from ranges_in(one)
-    elif isinstance(value, list):
-        for one in value:
-            yield from ranges_in(one)
-
-
-def outside(value, text):
-    """What is wrong with the ranges of an answer: nothing where each lies within the text."""
-    widths = lines_of(text)
-    for one in ranges_in(value):
-        places = [(one[end]["line"], one[end]["character"]) for end in ("start", "end")]
-        if places[0] > places[1] or any(line >= len(widths) or column > widths[line] for line, column in places):
-            return "this range is not within the document: %s" % json.dumps(one)
-    return None
-
-
-class FirstLine(io.StringIO):
-    """Takes one line, and no more."""
-
-    def write(self, text):
-        super().write(text)
-        if "\n" in self.getvalue():
-            raise Gone("one line is enough")
-
-
-def place_by_why(document):
-    """The line, and the column where one is told, that `why` names; nothing where it names none."""
-    text = document.text()
-    came = unity("check" if re.search(rb"(?m)^certificates\b", text) else "prove %d" % BUDGET, text)
-    said = FirstLine()
-    with contextlib.redirect_stdout(said), contextlib.suppress(Gone):
-        why.explain("here", text.decode("latin-1"), came.text.decode("latin-1"))
-    found = re.match(r"here:(\d+)(?::(\d+))?\n", said.getvalue())
-    return came.status, found and (int(found.group(1)), found.group(2) and int(found.group(2)))
-
-
-def place_of(diagnostic, text):
-    """The line and the byte's column of a diagnostic, from 1."""
-    start = diagnostic["range"]["start"]
-    line = text.split("\n")[start["line"]].encode("utf-16-le")[:2 * start["character"]]
-    return start["line"] + 1, len(line.decode("utf-16-le").encode()) + 1
-
-
 def judged(document, editor):
     """What is wrong with what is found of a document."""
     text, uri = document.text().decode("utf-8"), uri_of(document)
     editor.open(uri, text)
     found = editor.wait(uri)
-    status, place = place_by_why(document)
+    status, place = place_by_why(document.path)
     if outside(found, text):
         return outside(found, text)
     if status == 0:
         wrong = [it["message"] for it in found if it["severity"] < 2]
         return "it is accepted, and this came: %s" % wrong[0] if wrong else None
-    if not found:
-        return "`unity` answers %d, and nothing was found" % status
-    came = place_of(found[0], text)
-    if place and (came[0] != place[0] or place[1] and came[1] != place[1]):
-        return "`why` names %s, and the server %s" % (place, came)
+    if not found or wrong_place(found, place, text):
+        return wrong_place(found, place, text) if found else "`unity` answers %d, and nothing was found" % status
     marks = editor.of("codeLens", uri)
     return outside(marks, text)
 
@@ -264,7 +203,7 @@ def killed(room):
 
 def sessions_cases():
     """Each document in an editor, whole and as it is typed: long, so these are run where they are asked for alone."""
-    for folder, seconds in zip(FOLDERS, (200, 30, 60)):
+    for folder, seconds in (("examples", 200), ("examples/causes", 60)):
         yield Case("the language server over %s" % folder, lambda room, it=folder: session(it), seconds)
     yield Case("the language server while one types", typed, 30)
 
@@ -275,3 +214,4 @@ def cases():
     yield Case("the language server's actions", actions, 10)
     yield Case("the language server where node is killed", killed, 2)
     yield Case("the language server on names", names, 2)
+    yield Case("the language server over examples/mistakes", lambda room: session("examples/mistakes"), 30)

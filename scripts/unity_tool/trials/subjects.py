@@ -2,8 +2,9 @@
 
 A subject of your own is a line here: its function takes nothing, and yields a `Case` for each test (cases.py).
 """
-from unity_tool.trials import (asked_rows, causes, editing, generated, installing, machines, mistakes, refusing,
-                               scripts, serving, sessions, spinning, suffixes)
+from unity_tool.trials import (asked_rows, causes, editing, generated, installing, machines, mistakes, prefixes,
+                               refusing, scripts, serving, serving_faults, sessions, spinning, suffixes,
+                               wrong_seconds)
 
 SUBJECTS = [
     ("documents", suffixes.beside_documents),
@@ -18,10 +19,14 @@ SUBJECTS = [
     ("installing", installing.cases),
     ("machines", machines.cases),
     ("server", serving.cases),
+    ("server-faults", serving_faults.cases),
     ("server-sessions", serving.sessions_cases),
+    ("prefixes", prefixes.cases),
+    ("all-prefixes", prefixes.all_cases),
     ("editing", editing.cases),
     ("spin", spinning.cases),
+    ("spin-faults", wrong_seconds.cases),
     ("spin-documents", spinning.documents_cases),
 ]
 # what takes long is run with `--subject NAME` alone
-ASKED_ALONE = ("server-sessions", "spin-documents")
+ASKED_ALONE = ("server-sessions", "all-prefixes", "spin-documents")
