@@ -1,2 +1,4 @@
 pub mod PlaceLaws
 pub mod ListingLaws
+pub mod OriginLaws
+pub mod PlanOrigins

@@ -1,4 +1,5 @@
 pub mod Following
+pub mod Laws
 pub mod Listing
 pub mod Origins
 pub mod Places

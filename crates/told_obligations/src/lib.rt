@@ -3,11 +3,13 @@
 #![tactic(auto)]
 
 mod adding;
+mod laws;
 mod listing;
 mod origins;
 mod places;
 
 pub use adding::origins_of;
+pub use laws::listing_laws;
 pub use listing::{Listing, write_obligations};
 pub use origins::{Asked, Origin};
 pub use places::lines_of;
