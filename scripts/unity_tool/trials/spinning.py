@@ -79,7 +79,8 @@ def circle_for_why(room):
         return
     came = script("why.sh", "tests/limits/starved.unity", env={**os.environ, "UNITY_SPIN": "1"}).text.decode()
     said = [line for line in came.splitlines() if "never comes to the end of Starved.comes" in line]
-    yield "the end that never comes, for `why`", None if said and ("replayed" in said[0] or "limit" in said[0]) else came
+    is_told = said and ("replayed" in said[0] or "limit" in said[0])
+    yield "the end that never comes, for `why`", None if is_told else came
 
 
 def documents_cases():
