@@ -11,6 +11,7 @@ import re
 from unity_tool.files import read_document, record, write, write_json
 from unity_tool.plan import Plan, closure
 from unity_tool.program import Answer, unity
+from unity_tool.sides import said
 
 
 def units_of(text):
@@ -36,14 +37,14 @@ class Costs:
             name = step.named()
             if each:
                 units, dearest = max(zip(each, step.obligations), key=lambda pair: pair[0])
-                name += ": %d, obligation %d, %s" % (units, dearest.number, dearest.says())
+                name += ": %d, obligation %d, %s" % (units, dearest.number, said(step, dearest))
             print("%8d %12d  %s" % (sum(each), len(each), name))
         print("%8d %12d  all %d steps" % (self.total(), sum(map(len, self.units.values())), len(self.units)))
 
     def records(self):
         """For a tool that reads it: each step with the units of its obligations, in their order."""
         return [{"step": step.named(), "line": step.told.line, "units": each,
-                 "obligations": [it.says() for it in step.obligations]} for step, each in self.units.items()]
+                 "obligations": [said(step, it) for it in step.obligations]} for step, each in self.units.items()]
 
     def total(self):
         return sum(sum(each) for each in self.units.values())

@@ -9,7 +9,7 @@ from unity_tool.layers import new_variables, why_none
 from unity_tool.plan import closure
 from unity_tool.program import unity
 from unity_tool.repository import TOP
-from unity_tool.sides import Sides
+from unity_tool.sides import Sides, said
 
 # what stands at the place of a code, and just before it: the mistakes that come from other languages
 ELSEWHERE = [("double_equals", r"=", r"="), ("not_equals", r".*", r"!"), ("ampersands", r".*", r"&"),
@@ -121,7 +121,7 @@ def explain_obligation(plan, step, code, number):
         print("the proofs leave %d obligations" % len(each))
     elif number <= len(each):
         it, one = each[number - 1]
-        print("obligation %d, of %s: %s" % (number, it.named(), one.says()))
+        print("obligation %d, of %s: %s" % (number, it.named(), said(it, one)))
 
 
 def named(ref):

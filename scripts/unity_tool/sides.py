@@ -8,6 +8,10 @@ from unity_tool.formulas import Formula, key, read
 
 # what a term leaves to be shown, after what its parts leave
 SHOWN = {"imply": 1, "weaken": 2, "induct": 1}
+# what is said of an obligation of a term, in the words of its formulas and of its range
+SAYS = {"implied": "{0} gives {1}", "left": "{0} gives the left side of the part",
+        "right": "the right side of the part gives {1}",
+        "measure": "{0} lies in {range}, where {2} does not hold yet"}
 
 
 class Rule(Reader):
@@ -55,13 +59,30 @@ class Rule(Reader):
             self.take(",")
             made.ref = self.reference()
 
-    def shown(self):
-        """For each obligation of a term the part of it that leaves it."""
-        return shown_by(self.term)
-
 
 def shown_by(term):
+    """For each obligation of a term the part of it that leaves it."""
     return [it for part in term.terms for it in shown_by(part)] + [term] * SHOWN.get(term.word, 0)
+
+
+def part_of(step, obligation):
+    """The part of a proof term that leaves an obligation; nothing of a rule without a term."""
+    term = Rule(step).term
+    return shown_by(term)[obligation.number - step.obligations[0].number] if term else None
+
+
+def said(step, obligation):
+    """What an obligation says, in the words of the source."""
+    words, formula = step.plan.document.words, step.plan.formula
+    if obligation.kind() == "meant":
+        return "some statement is " + words(step.helper.start, step.helper.end)
+    if obligation.kind() not in SAYS:
+        return obligation.says()
+    part = part_of(step, obligation)
+    if part is None:
+        return "its right side gives what is claimed: %s" % formula(step.q)
+    ends = words(part.binder[1][0][0], part.binder[1][1][1]) if part.binder else ""
+    return SAYS[obligation.kind()].format(*map(formula, part.preds), range=ends)
 
 
 class Sides:

@@ -22,7 +22,7 @@ from unity_tool.probe import excluded, look, made_writes
 from unity_tool.program import unity
 from unity_tool.promela import second
 from unity_tool.refusals import explain_bad, explain_rejected, usual
-from unity_tool.sides import Rule, Sides
+from unity_tool.sides import Sides, part_of, said
 
 
 # where the reason for a refutation is known by its origin, what docs/WRITING.md says of it
@@ -42,7 +42,7 @@ def obligation_of(step, number):
 
 def say_obligation(step, it):
     say("obligation %d, number %d of %d of %s: %s" % (
-        it.number, step.obligations.index(it) + 1, len(step.obligations), step.named(), it.says()))
+        it.number, step.obligations.index(it) + 1, len(step.obligations), step.named(), said(step, it)))
 
 
 class Refutation:
@@ -139,13 +139,8 @@ class Refutation:
             for it in found[:1]:
                 self.show_false(self.formula(it.p))
 
-    def part(self, here):
-        """The part of a proof term that leaves an obligation; nothing of a rule without a term."""
-        rule = Rule(self.step)
-        return rule.shown()[self.step.obligations.index(here)] if rule.term else None
-
     def show_measure(self, here):
-        part = self.part(here)
+        part = part_of(self.step, here)
         measure = self.formula(part.preds[0])
         told = look(self.plan, self.step.program, self.values, [(measure, True)]).before[0]
         say("%s is %d, outside %s" % (measure, told, "..".join(str(value_of(it, {})) for it in part.binder[1])))
@@ -160,7 +155,7 @@ class Refutation:
 
     def sides(self, here):
         """The formula that holds, and the one that it does not give."""
-        part = self.part(here)
+        part = part_of(self.step, here)
         if part is None:
             return self.formula(self.plan.step_of(self.step, self.step.refs[0]).q), self.formula(self.step.q)
         if here.kind() == "implied":

@@ -15,6 +15,7 @@ from unity_tool.places import place_of
 from unity_tool.plan import closure, plan_of
 from unity_tool.program import unity
 from unity_tool.server.texts import shown
+from unity_tool.sides import said
 
 BUDGET = 300000
 # so often at most the rest is asked again, and of a longer text the answer alone is said
@@ -181,7 +182,7 @@ class Judge:
     def tell_steps(self):
         """The steps, with what is told of the whole text, or of what is left of it where a step breaks its rule."""
         plan = self.plan if self.plan.told is not None or not self.rest else self.rest
-        told = {it.named(): it for it in plan.told or []}
+        told = {it.named(): it for it in plan.steps}
         state = {it.named(): word for it, word in self.states.items()}
         rows = []
         for it in self.plan.steps:
@@ -189,19 +190,19 @@ class Judge:
             resting = [one for one in map(it.name_of, it.refs) if state.get(one, OPEN) not in (PROVED, OPEN)]
             rows.append({"named": named, "program": it.program, "name": it.name, "state": word,
                          "using": [it.name_of(ref) for ref in it.using], "rests": resting,
-                         "words": self.latin[it.start:it.end], **self.row_of(it, told.get(named, it.told))})
+                         "words": self.latin[it.start:it.end], **self.row_of(told.get(named, it))})
             if word == OPEN and state.get(named) is None and self.found:
                 because = "it rests on %s" % ", ".join(resting) if resting else "the search did not come to it"
                 self.found.append({"range": self.text.range(it.start, it.end), "severity": INFORMATION,
                                    "source": "unity", "code": OPEN, "message": "%s is open: %s" % (named, because)})
         self.emit({"steps": rows})
 
-    def row_of(self, step, told):
+    def row_of(self, step):
         """The record of a step, and its obligations: the number of the first, how many they are, and of some of them
         what they say, with the line that they come from."""
-        each = told.obligations
-        says = [[shown(it.says()), self.text.place(self.origin(step, it))["line"] + 1] for it in each[:MOST_SHOWN]]
-        return {"record": told.record() or step.kind, "first": each[0].number if each else 0, "count": len(each),
+        each = step.obligations
+        says = [[shown(said(step, it)), self.text.place(self.origin(step, it))["line"] + 1] for it in each[:MOST_SHOWN]]
+        return {"record": step.told.record() or step.kind, "first": each[0].number if each else 0, "count": len(each),
                 "says": says}
 
     def origin(self, step, obligation):
