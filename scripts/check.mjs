@@ -17,8 +17,8 @@ const WRITE_FAULT = 8, WRONG_USE = 64, BUDGET = '1000000';
 const STACK = 65536, KEPT_FREE = 1024;
 const pathOf = name => fileURLToPath(new URL(name, import.meta.url));
 const MODULE = pathOf('unity_tool/module.mjs'), PAGE = pathOf('../playground/unity.html');
-const PLACES = readFileSync(pathOf('../playground/src/places.js'), 'utf8');
-const { placeOf } = new Function(`'use strict'; ${PLACES} return { placeOf };`)();
+const CODES = ['told', 'places'].map(it => readFileSync(pathOf(`../playground/src/${it}.js`), 'utf8'));
+const { placeOf } = new Function(`'use strict'; ${CODES.join('')} return { placeOf };`)();
 
 // The comment above, on standard output or standard error, and the end.
 function usage(status) {
@@ -77,7 +77,7 @@ async function judged(name, proves) {
   const searches = proves && !/^certificates\b/m.test(source);
   const { status, text } = await ask(searches ? ['prove', BUDGET] : ['check'], bytes);
   const says = status === 0 && searches ? 'proved' : text.split('\n', 1)[0] || `no answer, status ${status}`;
-  return { status, line: `${placed(name, source, placeOf(source, text))}: ${says}` };
+  return { status, line: `${placed(name, source, await placeOf(source, text, ask))}: ${says}` };
 }
 
 // The words of the call, or those that the action has.

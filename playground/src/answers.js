@@ -5,7 +5,8 @@ const VIOLATED = 10;
 // What an exit means, in words; `words` were asked.
 function inWords(words, status, answer) {
   const done = { check: 'accepted', prove: 'proved: a certificate for each obligation', run: 'each step is defined',
-    watch: 'no step of the proof is violated on this schedule' };
+    watch: 'no step of the proof is violated on this schedule',
+    obligations: 'what is left to be shown, as a script for solvers' };
   if (status === 0 && /^accepted 0 steps/.test(answer)) return 'accepted; it has no proof, so it claims nothing';
   if (status === 0 && words[0] === 'fixed') return restInWords(answer);
   if (status === 0) return done[words[0]] ?? done.run;
@@ -48,12 +49,4 @@ function meaning(status, answer) {
 function brokenBy(answer) {
   const told = /^violated (\S+) place (\d+)\n/.exec(answer);
   return told && { step: told[1], place: Number(told[2]) };
-}
-
-// The steps that `check` lists, each with its program, kind and bound; and how many obligations they have in all.
-function stepsOf(accepted) {
-  const [first, ...lines] = accepted.trimEnd().split('\n');
-  const rows = lines.map(line => /^(\w+)\.(\w+) (\w+)(?: (\d+))?$/.exec(line)).filter(Boolean);
-  return { obligations: Number(/ (\d+) obligations$/.exec(first)?.[1] ?? 0),
-    rows: rows.map(([, program, step, kind, bound]) => ({ program, step, kind, bound: bound ?? '' })) };
 }

@@ -12,32 +12,33 @@ function lineOf(source, at) {
   return { line: source.slice(0, at).split('\n').length, index: source.lastIndexOf('\n', at - 1) + 1 };
 }
 
-// The line of a step, or of the proof of a program: what stands at the beginning of a step is its name, and no
-// parameter is, nor a word of a comment.
-function placeOfStep(source, program, step) {
-  let inside = false, begins = false, proof = -1;
-  for (const { 0: word, index } of source.matchAll(/#[^\n]*|\w+|[^\s\w]/g)) {
-    if (word[0] === '#') continue;
-    if (word === 'certificates') return null;
-    if (inside && begins && word === step) return lineOf(source, index);
-    if (proof >= 0 && word === program) {
-      if (!step) return lineOf(source, proof);
-      inside = begins = true;
-    } else {
-      inside = inside && !(begins && word === 'end');
-      begins = word === ';';
-    }
-    proof = !inside && word === 'proof' ? index : -1;
-  }
-  return null;
+// An answer that names a step, or a proof.
+const placeWords = /^(?:rejected \d+ \w+|refuted|budget|violated) (\w+)(?:\.(\w+))?/;
+
+// The place that an answer names, or nothing. Of a step it is what the steps of the document tell, which are null where
+// one does not follow its rule, and are asked for where they are not given; `ask` puts words and a document to the
+// program.
+async function placeOf(source, answer, ask, steps) {
+  const [first] = answer.split('\n', 1), byte = /^bad \d+ \w+ byte (\d+)$/.exec(first);
+  if (byte) return placeOfByte(source, Number(byte[1]));
+  const named = placeWords.exec(first);
+  if (!named) return null;
+  const [, program, step] = named, told = steps === undefined && step ? await stepsOf(source, ask) : steps;
+  const at = told ? stepNamed(told, program, step)?.byte : await declaredAt(source, program, step, ask);
+  return at === undefined ? null : lineOf(source, placeOfByte(source, at).index);
 }
 
-function placeOf(source, answer) {
-  const first = answer.split('\n', 1)[0];
-  const byte = /^bad \d+ \w+ byte (\d+)$/.exec(first);
-  if (byte) return placeOfByte(source, Number(byte[1]));
-  const step = /^(?:rejected \d+ \w+|refuted|budget|violated) (\w+)(?:\.(\w+))?/.exec(first);
-  return step && placeOfStep(source, step[1], step[2]);
+// The byte at which the name of a step begins, in a document of which no step is told. Where the name is declared once
+// more before it, the program says where it is declared twice. Without a step, the byte of the proof.
+async function declaredAt(source, program, step, ask) {
+  const plain = source.replace(/#[^\n]*/g, it => ' '.repeat(it.length));
+  const proof = new RegExp(`\\bproof\\s+${program}\\b`).exec(plain);
+  if (!proof) return undefined;
+  if (!step) return new TextEncoder().encode(source.slice(0, proof.index)).length;
+  const end = proof.index + proof[0].length, more = ` ${step}: defined by text;`;
+  const told = await ask(['check'], source.slice(0, end) + more + source.slice(end));
+  const twice = /^bad \d+ DeclaredTwice byte (\d+)$/m.exec(told.text);
+  return twice ? Number(twice[1]) - more.length : undefined;
 }
 
 // What `watch` tells of a violation: its place, its own lines, and all of these but the state as one line.

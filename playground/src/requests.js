@@ -52,7 +52,8 @@ function clear() {
   whole = '';
   walk.turn++;
   for (const it of ['status', 'answer', 'picture', 'meaning']) get(it).textContent = '';
-  for (const it of ['place', 'next', 'address', 'rest', 'meaning', 'proved', 'walk', 'drawing']) get(it).hidden = true;
+  const parts = ['place', 'next', 'address', 'rest', 'meaning', 'proved', 'refuted', 'walk', 'drawing'];
+  for (const it of parts) get(it).hidden = true;
   get('written').open = true;
   get('written-name').textContent = 'what the program wrote';
 }
@@ -65,15 +66,23 @@ async function ask(...words) {
   clear();
   busy(true);
   say(`${words.join(' ')} …`, true);
-  const told = await asked(words, source);
-  // where `watch` finds a violation the trace is asked for as well, and of what was proved the steps
-  const violated = told.status === VIOLATED, proved = words[0] === 'prove' && told.status === 0;
-  const more = violated ? await asked(['replay'], source) : proved ? await asked(['check'], told.text) : undefined;
+  const told = await asked(words, source), more = await besides(words, source, told);
   waiting = undefined;
   busy(false);
-  const all = violated ? { ...told, text: withTrace(told.text, more.text ?? '') } : told;
-  show(words, source, all, proved ? more : undefined);
+  const all = more.trace === undefined ? told : { ...told, text: withTrace(told.text, more.trace) };
+  show(words, source, all, more);
   return all;
+}
+
+// What is asked for beside an answer: of a violation the trace; of a proof, or of an answer that names a step, the
+// steps and the place; and of a refutation what its statement changes.
+async function besides(words, source, { status, text = '' }) {
+  const trace = status === VIOLATED ? (await asked(['replay'], source)).text ?? '' : undefined;
+  const lists = status === 0 && ['check', 'prove'].includes(words[0]);
+  const steps = lists || placeWords.test(text) ? await stepsOf(source, asked) : undefined;
+  const place = await placeOf(source, text, asked, steps), refuted = refutationOf(text, steps);
+  if (refuted?.instance) refuted.changes = await changesOf(source, refuted, asked);
+  return { trace, steps: lists ? steps : null, place, refuted };
 }
 
 function stop() {
@@ -82,7 +91,7 @@ function stop() {
   restart();
 }
 
-function show(words, source, told, accepted) {
+function show(words, source, told, { steps, place, refuted }) {
   if (told.trap !== undefined) {
     const why = `The program was stopped by the browser (${told.trap}).`;
     say(`${why} It was started anew, and the document is as it was.`, false);
@@ -93,9 +102,10 @@ function show(words, source, told, accepted) {
     say(`${words.join(' ')}: ${inWords(words, told.status, told.text)} (${time})`, told.status === 0);
   }
   showText(told.text ?? '', told.status);
-  if (accepted?.status === 0) showProved(accepted.text);
-  else if (words[0] === 'check' && told.status === 0) showSteps(told.text);
-  showPlace(placeOf(source, whole));
+  if (steps && words[0] === 'prove') showProved(steps);
+  else if (steps) showSteps(steps);
+  if (refuted) showRefuted(refuted);
+  showPlace(place);
   if (!get('place').hidden) lookAt(marked);
   comeIntoView('status');
   document.dispatchEvent(new CustomEvent('answered', { detail: told.time }));
@@ -125,26 +135,49 @@ function showText(answer, status) {
 }
 
 // After `prove` the steps stand before the document, which is folded.
-function showProved(accepted) {
-  showSteps(accepted);
+function showProved(steps) {
+  showSteps(steps);
   get('next').hidden = false;
   get('written').open = false;
   get('written-name').textContent = `the document with its certificates, ${whole.length} letters`;
 }
 
 // The steps that were accepted, each with its kind and its bound in rounds, and a button that goes to its line.
-function showSteps(accepted) {
-  const { rows, obligations } = stepsOf(accepted), table = get('proved'), source = sourceOf();
-  table.hidden = !rows.length;
-  const head = element('tr', ''), body = rows.map(({ program, step, kind, bound }) => {
-    const row = element('tr', ''), named = element('td', ''), to = placeOfStep(source, program, step);
-    named.append(element('button', `${program}.${step}`, { onclick: () => goTo(to), disabled: !to }));
+function showSteps(steps) {
+  const source = sourceOf(), body = steps.map(({ program, step, byte, kind, bound }) => {
+    const row = element('tr', ''), named = element('td', '');
+    const go = () => goTo(lineOf(source, placeOfByte(source, byte).index));
+    named.append(element('button', `${program}.${step}`, { onclick: go }));
     row.append(named, element('td', kind), element('td', bound && `${bound} ${bound === '1' ? 'round' : 'rounds'}`));
     return row;
   });
-  head.append(...['step', 'kind', 'bound'].map(it => element('th', it, { scope: 'col' })));
-  const title = `${rows.length} steps are proved, by ${obligations} obligations`;
-  table.replaceChildren(element('caption', title), head, ...body);
+  const obligations = steps.reduce((sum, it) => sum + it.obligations.length, 0);
+  const title = `${steps.length} steps are proved, by ${obligations} obligations`;
+  fillTable('proved', title, ['step', 'kind', 'bound'], body);
+  get('proved').hidden = !steps.length;
+}
+
+// The values of a refutation, beside them what the statement makes of them, and above them what is refuted. What it
+// changes stands there too where the claim does not speak of it.
+function showRefuted({ program, step, number, origin, instance, values, changes }) {
+  const slots = new Map((changes ?? []).map(([slot, old]) => [slot, old]));
+  const made = new Map((changes ?? []).map(([slot, , now]) => [slot, now]));
+  const body = [...new Map([...values, ...slots])].map(([slot, value]) => {
+    const row = element('tr', ''), after = made.get(slot);
+    row.append(element('td', slot), element('td', value));
+    if (changes) row.append(element('td', after ?? '', { className: after === undefined ? '' : 'new' }));
+    return row;
+  });
+  const head = ['variable', 'value', ...(changes ? [`after ${instance}`] : [])];
+  const fault = changes === null ? `; ${instance} is undefined here` : '';
+  fillTable('refuted', `${program}.${step}, obligation ${number}: ${origin}${fault}`, head, body);
+}
+
+function fillTable(id, title, names, body) {
+  const head = element('tr', '');
+  head.append(...names.map(it => element('th', it, { scope: 'col' })));
+  get(id).replaceChildren(element('caption', title), head, ...body);
+  get(id).hidden = false;
 }
 
 function element(kind, content, how = {}) {

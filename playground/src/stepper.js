@@ -77,7 +77,8 @@ async function beginWalk(list = [], at = 0) {
   if (turn !== walk.turn) return;
   if (fault || !names.length) {
     clear();
-    show(['step'], source, fault ?? { fault: 'There is no program to step through.' });
+    const told = fault ?? { fault: 'There is no program to step through.' };
+    show(['step'], source, told, await besides(['step'], source, told));
     return;
   }
   Object.assign(walk, { list, at, program, source, names });
@@ -96,19 +97,21 @@ async function showWalk(takesFocus = false) {
   }
   const seen = sectionsOf(source).some(it => it.kind === 'proof' && it.name === program)
     ? await asked(['watch'], composed) : { status: -1, text: '' };
+  const place = await placeOf(source, seen.text, asked);
   if (turn !== walk.turn || sourceOf() !== source) return;
   clear();
   drawChoices(rows, takesFocus);
-  tellWalk(trace, seen, composed);
+  tellWalk(trace, seen, place);
+  walk.composed = composed;
   get('walk').hidden = false;
   comeIntoView('walk');
   document.dispatchEvent(new CustomEvent('answered', { detail: trace.time }));
 }
 
-function tellWalk(trace, seen, composed) {
+function tellWalk(trace, seen, place) {
   const broken = seen.status === VIOLATED && brokenBy(seen.text), where = `state ${walk.at}`;
   showText(broken ? withTrace(seen.text, trace.text) : trace.text, broken ? VIOLATED : trace.status);
-  const to = broken && placeOf(walk.source, seen.text);
+  const to = broken && place;
   const line = to ? `, line ${to.line}` : '';
   if (broken) say(`${where}: ${broken.step} is broken${line}, at state ${broken.place}`, false);
   else if (trace.status === 5) say(`${where}: this step is undefined`, false);
@@ -116,7 +119,6 @@ function tellWalk(trace, seen, composed) {
   else say(`${where}: choose a statement`, true);
   showPlace(to || null);
   if (to) lookAt(to);
-  walk.composed = composed;
 }
 
 // The buttons of the instances, and which of the others can be used.

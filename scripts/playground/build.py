@@ -14,8 +14,8 @@ from exercises_read import exercises_of
 from lessons import Lessons, inline
 
 TOP = os.path.normpath(os.path.join(os.path.dirname(os.path.abspath(__file__)), "../.."))
-SCRIPTS = ["engine.js", "places.js", "sections.js", "answers.js", "editor.js", "keep.js", "requests.js", "pictures.js",
-           "addresses.js", "lessons.js", "stepper.js", "search.js", "exercises.js", "page.js"]
+SCRIPTS = ["engine.js", "sections.js", "told.js", "places.js", "answers.js", "editor.js", "keep.js", "requests.js",
+           "pictures.js", "addresses.js", "lessons.js", "stepper.js", "search.js", "exercises.js", "page.js"]
 KEPT = re.compile(r'<script type="text/plain" id="module">([^<]*)</script>')
 
 

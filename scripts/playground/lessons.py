@@ -12,7 +12,7 @@ import subprocess
 import tempfile
 
 # What a command asks of `unity`, where it asks on a document.
-ASKED = [(re.compile(r"unity (check|replay|watch|(?:run|fixed) \w+ \d+|prove \d+) < ([\w.]+\.unity)$"), None),
+ASKED = [(re.compile(r"unity (check|replay|watch|obligations|(?:run|fixed) \w+ \d+|prove \d+) < ([\w.]+\.unity)$"), None),
          (re.compile(r'bash "\$top/scripts/(check|watch)\.sh" ([\w.]+\.unity)$'), None),
          (re.compile(r'bash "\$top/scripts/(prove|why)\.sh" ([\w.]+\.unity)'), ["prove", "1000000"])]
 # What is asked on a document that a command changes on the way, with the command, what is asked, its name and the rest.

@@ -1,8 +1,8 @@
 // Compares the page's module with the native program: node try_answers.mjs PAGE UNITY
 //
 // The module and the code that calls it are taken out of the page. Each document of examples/ is checked, proved,
-// replayed, watched, run and run up to a fixed point, and of what was proved the check as well; each text and status
-// must be that of UNITY.
+// replayed, watched, run and run up to a fixed point, its obligations are told, and what was proved is checked as well;
+// each text and status must be that of UNITY.
 import { readFileSync, readdirSync } from 'node:fs';
 import { spawnSync } from 'node:child_process';
 
@@ -45,6 +45,7 @@ for (const folder of ['examples', 'examples/mistakes', 'examples/causes']) {
     if (proved.status === 0) compare(`${name}, proved,`, ['check'], proved.text);
     compare(name, ['replay'], source);
     compare(name, ['watch'], source);
+    compare(name, ['obligations'], source);
     for (const it of source.matchAll(/^program (\w+)/gm)) {
       for (const word of ['run', 'fixed']) compare(name, [word, it[1], '50'], source);
     }

@@ -1,12 +1,21 @@
 // Compares the places and pictures of the page's script with those of scripts/: node try_places.mjs PAGE
 import { readFileSync, readdirSync, existsSync } from 'node:fs';
-import { execFileSync } from 'node:child_process';
+import { execFileSync, spawnSync } from 'node:child_process';
 
 const top = new URL('../..', import.meta.url).pathname, read = file => readFileSync(file, 'utf8');
-const code = read(`${top}/playground/src/places.js`);
-const parts = '{ placeOf, traceSvg, withTrace, isTrace }';
-const { placeOf, traceSvg, withTrace, isTrace } = new Function(`'use strict'; ${code} return ${parts};`)();
+const codes = ['sections', 'told', 'places'].map(it => read(`${top}/playground/src/${it}.js`));
+const parts = '{ placeOf, traceSvg, withTrace, isTrace, stepsOf, refutationOf, changesOf }';
+const { placeOf, traceSvg, withTrace, isTrace, stepsOf, refutationOf, changesOf } =
+  new Function(`'use strict'; ${codes.join('')} return ${parts};`)();
 const shell = (script, ...words) => execFileSync('bash', ['-c', script, 'bash', ...words]).toString();
+
+// What `unity` answers to these words of a document.
+async function ask(words, input) {
+  const done = spawnSync('python3', ['-B', `${top}/scripts/unity-tool`, 'unity', ...words],
+    { input, maxBuffer: 1 << 28 });
+  return { status: done.status, text: done.stdout.toString() };
+}
+
 let tried = 0, failed = 0;
 
 function compare(what, here, there) {
@@ -26,15 +35,29 @@ function drawViolation(name, answer, trace) {
   compare(`${name}, all of the trace`, traceSvg(answer + trace), draw(answer + trace));
 }
 
-if (!read(process.argv[2]).includes(code.trim())) throw new Error('the page has another places.js');
-for (const folder of [`${top}/examples`, `${top}/examples/mistakes`, `${top}/tests/places`]) {
+// What a refutation's statement changes, as `why` says it.
+async function compareChanges(name, document, why) {
+  const refuted = refutationOf(why, await stepsOf(document, ask)), { instance } = refuted;
+  const changes = instance && await changesOf(document, refuted, ask);
+  const each = changes?.map(([slot, old, now]) => `${slot} from ${old} to ${now}`).join(', ') || 'nothing';
+  const here = changes === null ? `${instance} is undefined here:` : changes ? `${instance} changes ${each}` : '';
+  compare(`${name}, what it changes`, here, /^\S+ (changes|is undefined) .*$/m.exec(why)?.[0] ?? '');
+}
+
+for (const code of codes) {
+  if (!read(process.argv[2]).includes(code.trim())) throw new Error('the page has another script than playground/src');
+}
+for (const folder of ['examples', 'examples/mistakes', 'examples/causes', 'tests/places'].map(it => `${top}/${it}`)) {
   for (const name of readdirSync(folder)) {
     const file = `${folder}/${name}`, document = file.replace(/\.\w+$/, '.unity');
-    if (/\.(run|fixed|replay)$/.test(name)) {
+    if (/\.why$/.test(name)) {
+      await compareChanges(name, read(document), read(file));
+    } else if (/\.(run|fixed|replay)$/.test(name)) {
       compare(name, traceSvg(read(file)), shell('bash "$1/scripts/trace_svg.sh" < "$2"', top, file));
     } else if (/\.(expected|refuted|watch)$/.test(name) && existsSync(document)) {
       const told = shell('python3 -B "$1/scripts/unity-tool" place F "$3" < "$2" 2>&1', top, file, document);
-      compare(name, `${placeOf(read(document), read(file))?.line ?? ''}`, /^F:(\d+)/.exec(told)?.[1] ?? '');
+      const place = await placeOf(read(document), read(file), ask);
+      compare(name, `${place?.line ?? ''}`, /^F:(\d+)/.exec(told)?.[1] ?? '');
       const replay = file.replace(/\.watch$/, '.replay');
       if (replay !== file && /^violated /.test(read(file))) drawViolation(name, read(file), read(replay));
     }

@@ -38,6 +38,7 @@ COMMANDS = {
     "unity": Command("pass_on", "bash scripts/unity.sh WORD.. < FILE", "runs `unity` on standard input"),
     "place": Command("place", "scripts/unity-tool place NAME FILE < ANSWER", "shows the place that an answer names"),
     "spin": Command("spin", "scripts/unity-tool spin FILE [STEP..]", "asks SPIN for a second opinion"),
+    "solvers": Command("solvers", "scripts/unity-tool solvers FILE [BUDGET]", "asks z3 and cvc5 for a second opinion"),
     "lsp": Command("lsp", "scripts/unity-tool lsp", "serves editors that speak LSP"),
     "install": Command("install", "bash scripts/install.sh [--remove] [PREFIX]", "puts all of this under one folder"),
     "completions": Command("completions", "scripts/unity-tool completions SHELL", "writes completions for a shell"),
@@ -55,7 +56,7 @@ COMMANDS = {
 
 # what works where it is installed; all else is for a checkout of the repository
 FOR_AUTHORS = ["check", "prove", "why", "cost", "watch", "try", "shrink", "trace", "bounds", "all", "unity", "place",
-               "completions", "install", "vacuous", "spin", "lsp"]
+               "completions", "install", "vacuous", "spin", "solvers", "lsp"]
 
 
 class Parser(argparse.ArgumentParser):

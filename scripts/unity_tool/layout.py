@@ -16,7 +16,8 @@ SHARE = "share/unity"
 # what goes below SHARE as it stands
 KEPT = ("editors/**/*", "docs/*.png", "examples/README.md", "examples/*.unity", "examples/causes/*.unity",
         "examples/mistakes/*.unity", "scripts/unity-tool", "scripts/check.mjs", "scripts/unity_tool/**/*.py",
-        "scripts/unity_tool/module.mjs", "playground/unity.html", "playground/src/places.js", "VERSION", "LICENSE")
+        "scripts/unity_tool/module.mjs", "playground/unity.html", "playground/src/told.js",
+        "playground/src/places.js", "VERSION", "LICENSE")
 # the pages for authors: the others are about the sources
 PAGES = ("CERTIFICATES", "GALLERY", "LANGUAGE", "LOGIC", "PLAYGROUND", "REFERENCE", "TEACHING", "TERMS", "TUTORIAL",
          "WRITING")

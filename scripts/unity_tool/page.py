@@ -2,10 +2,11 @@
 
 In the page a block of code that begins with ```LANGUAGE NAME is a file of that name. A block that begins with
 ```console has commands, each on a line after `$ `, and below each what it prints, on standard output and standard
-error. The files are written and the commands carried out in the order of the page, in one shell that begins at the top
-of the repository, with an empty folder as HOME. For each command this prints a line: 0 where it printed what the page
-says, else 1, and then the page, the line and the command. What was printed instead goes to standard error. The status
-is 1 where a command failed, or the page has none.
+error; those of ```console where NAME are for where there is a program of that name. The files are written and the
+commands carried out in the order of the page, in one shell that begins at the top of the repository, with an empty
+folder as HOME. For each command this prints a line: 0 where it printed what the page says, else 1, and then the page,
+the line and the command. What was printed instead goes to standard error. The status is 1 where a command failed, or
+the page has none.
 """
 import sys
 import tempfile

@@ -1,12 +1,14 @@
 """Sessions of the shell: commands with what they print, as a page of docs/ or a file of tests/ has them.
 
 In a page a block of code that begins with ```LANGUAGE NAME is a file of that name, and a block that begins with
-```console has commands. A file NAME.console has commands alone. A command stands on a line after `$ `, and below it
-what it prints, on standard output and standard error. In a file its status stands below that, as [1], where it is not
-0; a line that is empty, or a comment after `#`, stands between commands.
+```console has commands; those of ```console where NAME are for where there is a program of that name. A file
+NAME.console has commands alone. A command stands on a line after `$ `, and below it what it prints, on standard output
+and standard error. In a file its status stands below that, as [1], where it is not 0; a line that is empty, or a
+comment after `#`, stands between commands.
 """
 import os
 import re
+import shutil
 import subprocess
 from typing import NamedTuple
 
@@ -43,9 +45,16 @@ def parts_of_page(text):
             end_block()
             inside = None
         else:
-            named = re.fullmatch(r"```[a-z]+ ([^ ]+)", line)
-            inside, lines = named.group(1) if named else "console" if line == "```console" else "", []
+            inside, lines = kind_of(line), []
     return found
+
+
+def kind_of(line):
+    """What a block is that begins with this line: the name of a file, or `console`; else nothing."""
+    named, where = re.fullmatch(r"```[a-z]+ ([^ ]+)", line), re.fullmatch(r"```console where ([^ ]+)", line)
+    if line == "```console" or where and shutil.which(where.group(1)):
+        return "console"
+    return named.group(1) if named else ""
 
 
 def commands_in(lines):

@@ -3,7 +3,7 @@
 A subject of your own is a line here: its function takes nothing, and yields a `Case` for each test (cases.py).
 """
 from unity_tool.trials import (asked_rows, causes, editing, generated, installing, machines, mistakes, prefixes,
-                               refusing, scripts, serving, serving_faults, sessions, spinning, suffixes,
+                               refusing, scripts, serving, serving_faults, sessions, solving, spinning, suffixes,
                                wrong_seconds)
 
 SUBJECTS = [
@@ -27,6 +27,7 @@ SUBJECTS = [
     ("spin", spinning.cases),
     ("spin-faults", wrong_seconds.cases),
     ("spin-documents", spinning.documents_cases),
+    ("solver-documents", solving.cases),
 ]
 # what takes long is run with `--subject NAME` alone
-ASKED_ALONE = ("server-sessions", "all-prefixes", "spin-documents")
+ASKED_ALONE = ("server-sessions", "all-prefixes", "spin-documents", "solver-documents")
