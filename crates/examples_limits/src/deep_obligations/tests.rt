@@ -92,13 +92,14 @@ fn is_written(alloc: Global, f: &CForm) -> Result<bool, AllocError>
         ranges.as_slice(),
         [].as_slice(),
     )?;
+    let words = Seq::new(alloc);
     let slots = [bit(0)];
     let mut sink = MemSink::new(alloc, ROOM, Vec::new(alloc))?;
     let mut text = Buffer::new();
     put_script(
         &mut text,
         &mut sink,
-        [].as_slice(),
+        words.as_slice(),
         slots.as_slice(),
         [].as_slice(),
         &o,
