@@ -137,7 +137,7 @@ def try_proof(chosen, text):
     if count > MOST_LISTS:
         raise Failure(64, "there are %d lists of %d choices: take less than --steps %d" % (
             count, chosen.steps, chosen.steps))
-    looking = Looking(plan, chosen.program, leads_of(plan, chosen.program, watched))
+    looking = Looking(plan, chosen.program, leads_of(plan, chosen.program))
     with concurrent.futures.ThreadPoolExecutor(os.cpu_count()) as pool:
         list(pool.map(looking.look, lists(instances, chosen.steps)))
     if chosen.json:

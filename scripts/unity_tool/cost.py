@@ -26,28 +26,24 @@ class Costs:
     def __init__(self, plan, proved):
         self.plan, self.units = plan, {}
         left = units_of(proved)
-        for step in plan.document.steps():
-            count = len(plan.obligations(step))
+        for step in plan.steps:
+            count = len(step.obligations)
             self.units[step], left = left[:count], left[count:]
 
     def table(self):
         print("%8s %12s  %s" % ("units", "obligations", "step, and its dearest obligation"))
-        first = 1
         for step, each in self.units.items():
-            name = "%s.%s" % (step.program, step.name)
+            name = step.named()
             if each:
-                most = each.index(max(each))
-                says = self.plan.obligations(step)[most].says
-                name += ": %d, obligation %d, %s" % (each[most], first + most, says)
+                units, dearest = max(zip(each, step.obligations), key=lambda pair: pair[0])
+                name += ": %d, obligation %d, %s" % (units, dearest.number, dearest.says())
             print("%8d %12d  %s" % (sum(each), len(each), name))
-            first += len(each)
-        print("%8d %12d  all %d steps" % (self.total(), first - 1, len(self.units)))
+        print("%8d %12d  all %d steps" % (self.total(), sum(map(len, self.units.values())), len(self.units)))
 
     def records(self):
         """For a tool that reads it: each step with the units of its obligations, in their order."""
-        return [{"step": "%s.%s" % (step.program, step.name), "line": self.plan.document.line(step.start),
-                 "units": each, "obligations": [it.says for it in self.plan.obligations(step)]}
-                for step, each in self.units.items()]
+        return [{"step": step.named(), "line": step.told.line, "units": each,
+                 "obligations": [it.says() for it in step.obligations]} for step, each in self.units.items()]
 
     def total(self):
         return sum(sum(each) for each in self.units.values())
@@ -62,7 +58,7 @@ def slice_of(plan, kept, instead=None):
     document, text, at = plan.document, "", 0
     for proof in document.proofs:
         text += document.text[at:proof.start]
-        steps = [it for it in proof.steps if it in kept]
+        steps = [it for it in plan.steps if it.program == proof.name and it in kept]
         if steps:
             lines = [(instead or {}).get(it, document.text[it.start:it.end]) for it in steps]
             text += "proof %s\n  %s\nend\n" % (proof.name, "\n  ".join(lines))
@@ -92,7 +88,7 @@ def try_names(plan, costs):
             text = slice_of(plan, kept, {step: without(plan, step, ref)})
             proved, status = unity(["prove", min(1000000, others + 2 * sum(each) + 1000)], text)
             if status == 0:
-                spare.append({"step": "%s.%s" % (step.program, step.name), "name": ref.word, "with": sum(each),
+                spare.append({"step": step.named(), "name": ref.word, "with": sum(each),
                               "without": Costs(Plan(proved), proved).of(step)})
     return tried, spare
 
@@ -105,9 +101,8 @@ def tell_names(tried, spare):
 
 def part_before(plan, step):
     """The steps before one, with the `defined` step that their proofs need."""
-    steps = plan.document.steps()
-    before = steps[:steps.index(step)]
-    missing = [it for it in steps if it.kind == "defined" and it not in before and it is not step
+    before = [it for it in plan.steps if it.start < step.start]
+    missing = [it for it in plan.steps if it.kind == "defined" and it not in before and it is not step
                and any(other.program == it.program for other in before)]
     return closure(plan, before) if before and not any(step in closure(plan, [it]) for it in missing) else set()
 
@@ -115,7 +110,7 @@ def part_before(plan, step):
 def stopped(plan, answer):
     """What is known where `prove` did not come to the end."""
     named = re.search(r" (\w+)\.(\w+)(?: obligation (\d+))?", answer.split("\n")[0])
-    step = named and plan.document.find(named.group(1), named.group(2))
+    step = named and plan.find(named.group(1), named.group(2))
     if not step:
         return
     kept = part_before(plan, step)

@@ -2,6 +2,7 @@
 
 It knows how a document is written and nothing of what is valid: `unity` reads it first and judges.
 """
+import bisect
 import re
 
 TOKEN = re.compile(r"[A-Za-z][A-Za-z0-9_]*|[0-9]+|:=|::|\.\.|\[\]|<\|\||<\[\]|\|>|\|\||<=|>=|=>|/=|[^\sA-Za-z0-9]")
@@ -9,6 +10,7 @@ RELATIONS = ("=", "/=", "<", "<=", ">", ">=")
 OPERATORS = ("*", "div", "mod")
 REFERENCES = {"conj": 2, "simpleconj": 2, "disj": 2, "simpledisj": 2, "cancel": 2, "union": 2, "until": 2, "detects": 2,
               "constant": 2, "superpose": 1, "complete": 4}
+ONE_SIDED = ("defined", "invariant", "stable", "constant", "fixed")
 
 
 def tokens_of(text):
@@ -32,8 +34,8 @@ class Node:
 class Reader:
     """Reads the forms of the grammar from a text that `unity` has read."""
 
-    def __init__(self, text):
-        self.text, self.tokens, self.at = text, tokens_of(text), 0
+    def __init__(self, text, tokens=None, at=0):
+        self.text, self.tokens, self.at = text, tokens_of(text) if tokens is None else tokens, at
 
     def now(self, ahead=0):
         at = self.at + ahead
@@ -155,6 +157,35 @@ class Reader:
             more = sign * int(self.take())
         return start, self.last(), word, more
 
+    # what a step claims, and what it names
+
+    def claim(self):
+        """A step up to its `by`: its parameters, its kind and its sides."""
+        self.take()
+        made = Record(params=[], p=None, q=None)
+        if self.has("("):
+            made.params = self.several(self.binder)
+            self.take(")")
+        self.take(":")
+        if self.now() in ONE_SIDED:
+            made.kind = self.take()
+            made.p = self.pred() if made.kind != "defined" else None
+        else:
+            made.p, made.kind = self.pred(), self.take()
+            made.q = self.pred()
+        self.take("by")
+        return made
+
+    def reference(self):
+        """A step or a statement that is named, with numbers for its parameters or indices."""
+        start, word, program, arguments = self.place(), self.take(), None, []
+        if self.has("."):
+            program, word = word, self.take()
+        if self.has("["):
+            arguments = self.several(self.end)
+            self.take("]")
+        return Record(word=word, program=program, arguments=arguments, start=start, end=self.last())
+
 
 class Record:
     """Named parts of a document."""
@@ -164,10 +195,11 @@ class Record:
 
 
 class Document(Reader):
-    """The programs and the proofs of a document."""
+    """The programs of a document, where its proofs stand, and its schedule."""
 
     def __init__(self, text):
         super().__init__(text)
+        self.starts = [start for _, start, _ in self.tokens]
         self.programs, self.proofs, self.schedule, self.certificates = {}, [], None, None
         self.scheduled = None
         self.take("unity")
@@ -271,87 +303,16 @@ class Document(Reader):
         values = self.several(self.pred)
         return values, self.pred() if self.has("if") else None
 
-    # proofs
+    # proofs: of each its name and where it stands, since what its steps are `unity` tells
 
     def read_proof(self):
-        proof = Record(start=self.place(), steps=[], name=None)
+        start = self.place()
         self.take("proof")
-        proof.name = self.take()
-        self.proofs.append(proof)
-        while not self.has("end"):
-            proof.steps.append(self.step(proof))
-        proof.end = self.place()
-
-    def step(self, proof):
-        start, name, params = self.place(), self.take(), []
-        if self.has("("):
-            params = self.several(self.binder)
-            self.take(")")
-        self.take(":")
-        made = Record(name=name, program=proof.name, params=params, start=start, p=None, q=None, using=[])
-        if self.now() in ("defined", "invariant", "stable", "constant", "fixed"):
-            made.kind = self.take()
-            made.p = self.pred() if made.kind != "defined" else None
-        else:
-            made.p, made.kind = self.pred(), self.take()
-            made.q = self.pred()
-        self.take("by")
-        made.rule = self.rule()
-        if self.has("using"):
-            made.using = self.several(self.reference)
-        self.take(";")
-        made.end = self.last()
-        return made
-
-    def rule(self):
-        word = self.now()
-        if self.has("text"):
-            return Record(word="text", helper=self.reference() if self.has("with") else None)
-        if word == "weaken" and self.now(1) != "(":
+        name = self.take()
+        while self.now() != "end":
             self.take()
-            return Record(word="weaken step", refs=[self.reference()])
-        if word in REFERENCES:
-            self.take()
-            return Record(word=word, refs=[self.reference() for _ in range(REFERENCES[word])])
-        return Record(word="term", term=self.term())
-
-    def reference(self):
-        start, word, program, arguments = self.place(), self.take(), None, []
-        if self.has("."):
-            program, word = word, self.take()
-        if self.has("["):
-            arguments = self.several(self.end)
-            self.take("]")
-        return Record(word=word, program=program, arguments=arguments, start=start, end=self.last())
-
-    def term(self):
-        start, word = self.place(), self.take()
-        made = Record(word=word, terms=[], preds=[], ref=None, binder=None, start=start)
-        if word == "from":
-            made.ref = self.reference()
-        else:
-            self.take("(")
-            if word in ("exists", "induct"):
-                made.binder = self.binder()
-                self.take(",")
-            for part in range({"imply": 2, "weaken": 2, "induct": 3}.get(word, 0)):
-                made.preds.append(self.pred())
-                if word != "imply" or part == 0:
-                    self.take(",")
-            if word != "imply":
-                self.read_parts(made)
-            self.take(")")
-        made.end = self.last()
-        return made
-
-    def read_parts(self, made):
-        made.terms.append(self.term())
-        if made.word in ("trans", "either"):
-            self.take(",")
-            made.terms.append(self.term())
-        elif made.word == "psp":
-            self.take(",")
-            made.ref = self.reference()
+        self.proofs.append(Record(name=name, start=start, end=self.place()))
+        self.take("end")
 
     # the schedule
 
@@ -367,15 +328,23 @@ class Document(Reader):
 
     # what stands where
 
-    def steps(self):
-        return [step for proof in self.proofs for step in proof.steps]
-
-    def find(self, program, name):
-        return next((step for step in self.steps() if step.program == program and step.name == name), None)
-
     def line(self, at):
         return self.text.count("\n", 0, at) + 1
 
     def words(self, start, end):
         """What the source has from one place to another, in one line and without comments."""
         return " ".join(re.sub(r"#[^\n]*", "", self.text[start:end]).split())
+
+    def reader(self, at):
+        """A reader of the same text that begins at a byte."""
+        return Reader(self.text, self.tokens, self.index(at))
+
+    def index(self, at):
+        """The number of the first token from a byte on."""
+        return bisect.bisect_left(self.starts, at)
+
+
+def programs_in(document, name):
+    """The plain programs of which a program is made."""
+    parts = document.programs[name].parts
+    return [document.programs[name]] if not parts else [it for part in parts for it in programs_in(document, part)]

@@ -1,6 +1,6 @@
 """Why a program is no layer over another one, in the words of both."""
+from unity_tool.document import programs_in
 from unity_tool.formulas import key
-from unity_tool.plan import programs_in
 from unity_tool.probe import find_statement, writes_of
 
 

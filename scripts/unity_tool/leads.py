@@ -5,7 +5,6 @@ round from there. A round is over when each instance has had its turn. At which 
 `unity` says: a statement that looks stands before each choice and at the end, and writes their truth into variables of
 its own.
 """
-import re
 import threading
 
 from unity_tool.formulas import value_of
@@ -19,8 +18,8 @@ AT_ONCE, MOST_TRUTHS = 100, 4000000
 class Lead:
     """A leads-to: its name, its bound, and the most rounds that it took so far; nothing where it never began."""
 
-    def __init__(self, step, bound):
-        self.step, self.bound, self.seen = step, bound, None
+    def __init__(self, step):
+        self.step, self.bound, self.seen = step, step.bound, None
         self.left, self.right = (step.q, step.p) if step.kind == "detects" else (step.p, step.q)
 
     def took(self, rounds):
@@ -28,7 +27,7 @@ class Lead:
 
     def record(self):
         """For a tool that reads it."""
-        return {"step": "%s.%s" % (self.step.program, self.step.name), "bound": self.bound, "seen": self.seen}
+        return {"step": self.step.named(), "bound": self.bound, "seen": self.seen}
 
     def __str__(self):
         seen = "never began" if self.seen is None else "seen %d" % self.seen
@@ -45,10 +44,9 @@ def numbers_of(params, numbers=None):
     return [more for number in ends for more in numbers_of(params[1:], {**numbers, name: number})]
 
 
-def leads_of(plan, program, watched):
-    """The leads-to of a program's proof, with the bounds that `watch` tells."""
-    told = re.findall(r"(?m)^\w+\.(\w+) (?:leadsto|until|detects) (\d+)$", watched)
-    return [Lead(plan.document.find(program, name), int(bound)) for name, bound in told]
+def leads_of(plan, program):
+    """The leads-to of a program's proof."""
+    return [Lead(step) for step in plan.steps if step.program == program and step.bound is not None]
 
 
 def bits(number):

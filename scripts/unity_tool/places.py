@@ -7,10 +7,12 @@ import re
 import sys
 from typing import NamedTuple, Optional
 
-from unity_tool.document import TOKEN
+from unity_tool import obligations
+from unity_tool.program import ask
 
 BEFORE, SHOWN = 99, 160
 BYTE = re.compile(rb"bad [0-9]+ [A-Za-z]* byte ([0-9]+)\n")
+TWICE = re.compile(rb"bad [0-9]+ DeclaredTwice byte ([0-9]+)\n")
 STEP = re.compile(rb"(?:rejected [0-9]+ [A-Za-z]*|refuted|budget|violated) ([^ \n]*)")
 
 
@@ -48,36 +50,24 @@ def byte_place(text, at):
 
 
 def step_place(text, named):
-    """The place of PROGRAM.STEP, or of the proof of PROGRAM: what stands at the beginning of a step is its name, and
-    no parameter is. Nothing where there is none."""
+    """The place of PROGRAM.STEP, or of the proof of PROGRAM; nothing where there is none."""
     program, _, step = named.partition(b".")
-    tokens = tokens_of(text)
-    for word, at in tokens:
-        if word == b"certificates":
-            break
-        if word == b"proof" and next(tokens, (b"", 0))[0] == program:
-            if not step:
-                return Place(*line_of(text, at)[:2])
-            found = step_in(tokens, step)
-            if found is not None:
-                return Place(*line_of(text, found)[:2])
-    return None
+    steps = obligations.steps_of(text) if step else None
+    at = next((it.byte for it in steps if it.named() == named.decode()), None) if steps is not None else \
+        declared_at(text, program, step)
+    return Place(*line_of(text, at)[:2]) if at is not None else None
 
 
-def step_in(tokens, step):
-    """Where a step of this name begins in a proof whose steps follow; nothing where it has none."""
-    begins = True
-    for word, at in tokens:
-        if begins and word in (step, b"end"):
-            return at if word == step else None
-        begins = word == b";"
-    return None
-
-
-def tokens_of(text):
-    """The tokens of a text in bytes, each with its place, as they are asked for."""
+def declared_at(text, program, step):
+    """The byte at which the name of a step begins, in a document of which no step is told. Where the name is declared
+    once more before it, `unity` says where it is declared twice. Without a step, the byte of the proof."""
     plain = re.sub(rb"#[^\n]*", lambda found: b" " * len(found.group()), text)
-    return ((found.group(), found.start()) for found in re.finditer(TOKEN.pattern.encode(), plain))
+    proof = re.search(rb"\bproof\s+%s\b" % program, plain)
+    if not step or not proof:
+        return proof and proof.start()
+    more = b" %s: defined by text;" % step
+    twice = TWICE.match(ask(["check"], text[:proof.end()] + more + text[proof.end():]).text)
+    return int(twice.group(1)) - len(more) if twice else None
 
 
 def place_of(answer, text):

@@ -1,11 +1,99 @@
-"""The obligations of each step of a document, in the order of docs/LOGIC.md, in words of the source."""
-from unity_tool.document import Document, Record
-from unity_tool.formulas import Formula, key, read
+"""A document with its steps: what `unity` tells of them, and the words of the source that they are made of."""
+import functools
+
+from unity_tool import obligations
+from unity_tool.document import Document
+from unity_tool.formulas import Formula, read
+from unity_tool.outline import STEP, Outline
 from unity_tool.program import unity
 
 
+def of_claim(part, says):
+    """A part of what a step claims."""
+    return property(lambda step: getattr(step.claimed, part), doc=says)
+
+
+class Step:
+    """A step of a proof: what `unity` tells of it, and of its source what is asked for."""
+
+    def __init__(self, plan, told):
+        self.plan, self.told = plan, told
+        self.program, self.name, self.start = told.program, told.name, told.byte
+        self.obligations = told.obligations
+
+    def named(self):
+        return self.told.named()
+
+    @property
+    def bound(self):
+        """Its bound in rounds, where it has one."""
+        return int(self.told.bound) if self.told.bound else None
+
+    @functools.cached_property
+    def claimed(self):
+        """What it claims, in the words of the source, and the first word of its rule."""
+        reader = self.plan.document.reader(self.start)
+        made = reader.claim()
+        made.rule = reader.now()
+        return made
+
+    kind = of_claim("kind", "The word of its kind, as the source has it.")
+    rule = of_claim("rule", "The first word of its rule.")
+    params = of_claim("params", "Its parameters, with their ranges.")
+    p = of_claim("p", "What it claims, or its left side.")
+    q = of_claim("q", "Its right side, where it has one.")
+
+    @functools.cached_property
+    def end(self):
+        """The byte behind its semicolon."""
+        return self.place_of(";") + 1
+
+    def place_of(self, word):
+        """The byte at which the first such word in the step begins; nothing where there is none."""
+        reader = self.plan.document.reader(self.start)
+        while reader.now() not in (word, ";"):
+            reader.take()
+        return reader.place() if reader.now() == word else None
+
+    def named_after(self, word):
+        """What is named after this word of the step."""
+        at = self.place_of(word)
+        if at is None:
+            return []
+        reader = self.plan.document.reader(at)
+        reader.take()
+        return reader.several(reader.reference)
+
+    @functools.cached_property
+    def using(self):
+        """The invariants that stand after its `using`."""
+        return self.named_after("using")
+
+    @functools.cached_property
+    def helper(self):
+        """The statement that stands after its `with`, or nothing."""
+        return next(iter(self.named_after("with")), None)
+
+    def name_of(self, ref):
+        """The whole name of a step that it names."""
+        return "%s.%s" % (ref.program or self.program, ref.word)
+
+    @functools.cached_property
+    def refs(self):
+        """All steps that it names."""
+        return [reference_at(self.plan.document, it.start) for it in self.plan.names_between(self.start, self.end)]
+
+
+def reference_at(document, at):
+    """The step that is named at a byte, with the program that may stand before it."""
+    reader = document.reader(at)
+    if reader.now(-1) == ".":
+        reader.at -= 2
+    return reader.reference()
+
+
 class Plan:
-    """A document with the obligations of its steps."""
+    """A document with its steps."""
 
     def __init__(self, text):
         self.document = Document(text)
@@ -16,6 +104,47 @@ class Plan:
 
     def read(self, text):
         return read(text, self.document.defs)
+
+    # steps
+
+    @functools.cached_property
+    def told(self):
+        """What `unity` tells of the steps; nothing where one does not follow its rule."""
+        return obligations.steps_of(self.bare().encode("latin-1"))
+
+    @functools.cached_property
+    def names(self):
+        """The names in the document, each with its place."""
+        return Outline(self.bare()).names
+
+    def bare(self):
+        """The document without its certificates."""
+        return self.document.text[:self.document.certificates]
+
+    @functools.cached_property
+    def steps(self):
+        """The steps in order. Where one does not follow its rule `unity` tells of none, and they are found by their
+        names, without kinds, bounds and obligations."""
+        found = self.told if self.told is not None else [
+            obligations.Step(it.owner, it.word, it.start, self.document.line(it.start), "", "", ())
+            for it in self.names if it.kind == STEP and it.declares]
+        return [Step(self, it) for it in found]
+
+    def find(self, program, name):
+        return next((step for step in self.steps if step.program == program and step.name == name), None)
+
+    def steps_beside(self, step):
+        """The steps of the same proof."""
+        return [it for it in self.steps if it.program == step.program]
+
+    def names_between(self, start, end):
+        """The names of steps that are named from a place on up to another one."""
+        return [it for it in self.names if it.kind == STEP and not it.declares and start <= it.start < end]
+
+    def step_of(self, step, ref):
+        return self.find(ref.program or step.program, ref.word)
+
+    # statements
 
     def instances(self, program):
         """The instances of a program, in order: what `run` names in turn, of statements that change nothing."""
@@ -29,102 +158,6 @@ class Plan:
                     break
                 self.known[program].append(name)
         return self.known[program]
-
-    def under(self, step):
-        """The names of the invariants that a step rests on, each formula once, and the formulas to compare."""
-        each = []
-        for inv in self.invariants_under(step):
-            one = key(self.formula(inv.p))
-            if one not in [other for _, other in each]:
-                each.append((inv.name, one))
-        return each
-
-    def invariants_under(self, step):
-        """The invariants that `using` names in a step, and then in those that it is made from."""
-        found = [inv for ref in step.using for inv in [self.step_of(step, ref)] if inv]
-        for ref in refs_of(step.rule):
-            if self.step_of(step, ref):
-                found += self.invariants_under(self.step_of(step, ref))
-        return found
-
-    def step_of(self, step, ref):
-        return self.document.find(ref.program or step.program, ref.word)
-
-    def obligations(self, step):
-        """What a step leaves to be shown, in order."""
-        rule = step.rule
-        if rule.word == "text":
-            return self.by_text(step)
-        if rule.word == "union":
-            parts = [self.step_of(step, ref) for ref in rule.refs]
-            shown = [name for part in parts if part for name, _ in self.under(part)]
-            return [Record(kind="shown", says="%s, which a part was proved under" % name, inst=None) for name in shown]
-        if rule.word == "superpose":
-            below = rule.refs[0].program
-            says = "%s begins where %s may" % (step.program, below)
-            return [Record(kind="begins", says=says, inst=None, below=below)]
-        if rule.word == "weaken step":
-            inner = self.step_of(step, rule.refs[0])
-            return [self.implied("its right side", self.formula(inner.q), self.formula(step.q))]
-        return self.by_term(rule.term) if rule.word == "term" else []
-
-    def by_text(self, step):
-        names = self.instances(step.program)
-        if step.kind == "defined":
-            return [Record(kind="defined", says="%s is defined" % name, inst=name) for name in names]
-        if step.kind == "invariant":
-            each = [Record(kind="kept", says="%s keeps it" % name, inst=name) for name in names]
-            return [Record(kind="start", says="it holds at the start", inst=None)] + each
-        if step.kind == "fixed":
-            return [Record(kind="rests", says="%s leaves such a state as it is" % name, inst=name) for name in names]
-        goes = "%s keeps it" if step.kind == "stable" else "after %s the left or the right side holds"
-        each = [Record(kind="goes", says=goes % name, inst=name) for name in names]
-        return each + (self.by_helper(step, names) if step.kind == "ensures" else [])
-
-    def by_helper(self, step, names):
-        helper = step.rule.helper
-        fixed = [(at, more) for at, (_, _, word, more) in enumerate(helper.arguments) if word is None]
-        helps = []
-        for name in names:
-            label, _, indices = name.partition("[")
-            numbers = [int(it) for it in indices.rstrip("]").split(",")] if indices else []
-            fits = len(numbers) == len(helper.arguments) and all(numbers[at] == more for at, more in fixed)
-            if label == helper.word and fits:
-                helps.append(Record(kind="helps", says="%s helps: after it the right side holds" % name, inst=name))
-        if len(fixed) == len(helper.arguments):
-            return helps
-        meant = "some statement is %s" % self.document.words(helper.start, helper.end)
-        return [Record(kind="meant", says=meant, inst=None)] + helps
-
-    def implied(self, what, left, right):
-        return Record(kind="implied", says="%s gives what is claimed: %s" % (what, right), inst=None,
-                      left=left, right=right)
-
-    def by_term(self, term):
-        """The obligations of a proof term, those of its parts first."""
-        found = [it for part in term.terms for it in self.by_term(part)]
-        preds = [self.formula(node) for node in term.preds]
-        if term.word == "imply":
-            found.append(Record(kind="implied", says="%s gives %s" % (preds[0], preds[1]), inst=None,
-                                left=preds[0], right=preds[1]))
-        if term.word == "weaken":
-            inner = "the left side of the part"
-            found.append(Record(kind="implied", says="%s gives %s" % (preds[0], inner), inst=None, left=preds[0],
-                                right=None, term=term.terms[0], side=0))
-            found.append(Record(kind="implied", says="the right side of the part gives %s" % preds[1], inst=None,
-                                left=None, right=preds[1], term=term.terms[0], side=1))
-        if term.word == "induct":
-            name, ends = term.binder
-            inside = "%s lies in %s, where %s does not hold yet" % (
-                preds[0], self.document.words(ends[0][0], ends[1][1]), preds[2])
-            found.append(Record(kind="measure", says=inside, inst=None, measure=preds[0], ends=ends))
-        return found
-
-
-def programs_in(document, name):
-    """The plain programs of which a program is made."""
-    parts = document.programs[name].parts
-    return [document.programs[name]] if not parts else [it for part in parts for it in programs_in(document, part)]
 
 
 def idle_items(document, program):
@@ -143,18 +176,6 @@ def idle_items(document, program):
     return [idle(item) for item in made.items]
 
 
-def refs_of(rule):
-    """The steps that a rule names, in reading order."""
-    if rule.word == "term":
-        return refs_in(rule.term)
-    return getattr(rule, "refs", [])
-
-
-def refs_in(term):
-    found = [ref for part in term.terms for ref in refs_in(part)]
-    return found + ([term.ref] if term.ref else [])
-
-
 def closure(plan, steps):
     """Steps with all that they rest on, and the `defined` step of each proof that has one of them."""
     found, waiting = set(), list(steps)
@@ -163,6 +184,14 @@ def closure(plan, steps):
         if step in found:
             continue
         found.add(step)
-        waiting += [it for it in (plan.step_of(step, ref) for ref in step.using + list(refs_of(step.rule))) if it]
-        waiting += [it for it in plan.document.steps() if it.program == step.program and it.kind == "defined"]
+        waiting += [it for it in (plan.step_of(step, ref) for ref in step.refs) if it]
+        waiting += [it for it in plan.steps_beside(step) if it.kind == "defined"]
     return found
+
+
+def plan_of(latin):
+    """The plan of a text, or nothing where it can't be read as it stands."""
+    try:
+        return Plan(latin)
+    except (Exception, SystemExit):  # pylint: disable=broad-except
+        return None

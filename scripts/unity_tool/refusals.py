@@ -3,10 +3,10 @@ import difflib
 import os
 import re
 
-from unity_tool.document import tokens_of
+from unity_tool.document import programs_in, tokens_of
 from unity_tool.formulas import pieces
 from unity_tool.layers import new_variables, why_none
-from unity_tool.plan import programs_in, refs_of
+from unity_tool.plan import closure
 from unity_tool.program import unity
 from unity_tool.repository import TOP
 from unity_tool.sides import Sides
@@ -116,12 +116,12 @@ def explain_rejected(plan, step, code, word, number, rest):
 
 
 def explain_obligation(plan, step, code, number):
-    each = [(it, one) for it in plan.document.steps() for one in plan.obligations(it)]
+    each = [(it, one) for it in plan.steps for one in it.obligations]
     if code == "51":
         print("the proofs leave %d obligations" % len(each))
     elif number <= len(each):
         it, one = each[number - 1]
-        print("obligation %d, of %s.%s: %s" % (number, it.program, it.name, one.says))
+        print("obligation %d, of %s: %s" % (number, it.named(), one.says()))
 
 
 def named(ref):
@@ -129,26 +129,25 @@ def named(ref):
 
 
 def each_ref(plan, step):
-    return [(ref, plan.step_of(step, ref)) for ref in step.using + list(refs_of(step.rule))]
+    return [(ref, plan.step_of(step, ref)) for ref in step.refs]
 
 
 def no_such_step(plan, step):
-    steps = plan.document.steps()
     for ref, found in each_ref(plan, step):
         if found is None:
             print("%s is no step of the proof of %s" % (named(ref), ref.program or step.program))
-        elif steps.index(found) >= steps.index(step):
-            print("%s stands below, at line %d" % (named(ref), plan.document.line(found.start)))
+        elif found.start >= step.start:
+            print("%s stands below, at line %d" % (named(ref), found.told.line))
 
 
 def other_program(plan, step):
     parts = plan.document.programs[step.program].parts
-    if step.rule.word == "union":
+    if step.rule == "union":
         print("%s is the union of %s and %s" % (step.program, *parts) if parts else "%s is no union" % step.program)
     for ref, found in each_ref(plan, step):
         if found and found.program != step.program:
             print("%s is a step of %s, and %s one of %s" % (named(ref), found.program, step.name, step.program))
-        elif found and step.rule.word == "superpose":
+        elif found and step.rule == "superpose":
             print("%s is a step of %s itself" % (named(ref), step.program))
 
 
@@ -157,8 +156,7 @@ def article(kind):
 
 
 def wrong_kind(plan, step):
-    rule = step.rule.word if step.rule.word != "term" else step.rule.term.word
-    print("%s claims %s, by `%s`" % (step.name, article(step.kind), rule))
+    print("%s claims %s, by `%s`" % (step.name, article(step.kind), step.rule))
     for ref, found in each_ref(plan, step):
         if found:
             print("%s is %s" % (named(ref), article(found.kind)))
@@ -180,11 +178,11 @@ def not_invariant(plan, step):
 
 def defined_missing(plan, step):
     for proof in plan.document.proofs:
-        found = [it for it in proof.steps if it.kind == "defined"]
+        found = [it for it in plan.steps if it.program == proof.name and it.kind == "defined"]
         if not found:
             print("the proof of %s has no `defined` step" % proof.name)
-        elif step in proof.steps and proof.steps.index(step) < proof.steps.index(found[0]):
-            print("%s stands below, at line %d" % (found[0].name, plan.document.line(found[0].start)))
+        elif step and step.program == proof.name and step.start < found[0].start:
+            print("%s stands below, at line %d" % (found[0].name, found[0].told.line))
 
 
 def no_start(plan, step):
@@ -232,25 +230,30 @@ def bad_argument(plan, step):
 
 
 def no_such_statement(plan, step):
-    helper = step.rule.helper
+    helper = step.helper
     if helper:
         print("%s is none of %s's statements: %s" % (plan.document.words(helper.start, helper.end), step.program,
                                                      ", ".join(plan.instances(step.program)[:20])))
 
 
 def not_a_layer(plan, step):
-    for line in why_none(plan, step.program, step.rule.refs[0].program):
+    for line in why_none(plan, step.program, step.refs[0].program):
         print(line)
 
 
 def names_new_variable(plan, step):
     """The new variables that are named by a side of the step below, or by what it was proved under."""
-    ref = step.rule.refs[0]
+    ref = step.refs[0]
     new = new_variables(plan, step.program, ref.program)
-    named = words_in([it for it in (step.p, step.q) if it] +
-                     [inv.p for inv in plan.invariants_under(plan.step_of(step, ref))], plan.document.defs)
+    under = [inv.p for it in closure(plan, [plan.step_of(step, ref)]) for inv in under_using(plan, it)]
+    named = words_in([it for it in (step.p, step.q) if it] + under, plan.document.defs)
     print("%s has these, and %s has not: %s" % (step.program, ref.program, ", ".join(new)))
     print("%s speaks of %s" % ("%s.%s" % (ref.program, ref.word), ", ".join(it for it in new if it in named)))
+
+
+def under_using(plan, step):
+    """The invariants that a step names after `using`."""
+    return [inv for inv in (plan.step_of(step, ref) for ref in step.using) if inv]
 
 
 def words_in(nodes, defs):

@@ -79,7 +79,7 @@ def try_some(scheduled, count, seed, step=None):
     answer, status = scheduled.watch([])
     if status:
         return Trial(status, answer.rstrip("\n"), [], [] if status == 10 else None)
-    looking = Looking(plan, program, leads_of(plan, program, answer))
+    looking = Looking(plan, program, leads_of(plan, program))
     source, instances, others = random.Random(seed), plan.instances(program), 0
     rounds = max([lead.bound for lead in looking.leads] + [0]) + MORE_ROUNDS
 

@@ -1,5 +1,67 @@
-"""The sides that a rule gives, in the words of the source, and which formulas it wants to be the same."""
+"""The sides that a rule gives, in the words of the source, and which formulas it wants to be the same.
+
+What a rule asks for `unity` judges. Where it rejects a step it says the code alone, and of a proof term it says which
+side of a part an obligation is of; what these are in the words of the source is found here, for a reader.
+"""
+from unity_tool.document import REFERENCES, Reader, Record
 from unity_tool.formulas import Formula, key, read
+
+# what a term leaves to be shown, after what its parts leave
+SHOWN = {"imply": 1, "weaken": 2, "induct": 1}
+
+
+class Rule(Reader):
+    """The rule of a step, in the words of the source: its first word, the steps that it takes, and the term."""
+
+    def __init__(self, step):
+        begin = step.plan.document.reader(step.start)
+        begin.claim()
+        super().__init__(begin.text, begin.tokens, begin.at)
+        self.word, self.refs, self.term = self.now(), [], None
+        if self.word == "weaken" and self.now(1) != "(":
+            self.take()
+            self.refs = [self.reference()]
+        elif self.word in REFERENCES:
+            self.take()
+            self.refs = [self.reference() for _ in range(REFERENCES[self.word])]
+        elif self.word != "text":
+            self.term = self.read_term()
+
+    def read_term(self):
+        word = self.take()
+        made = Record(word=word, terms=[], preds=[], ref=None, binder=None)
+        if word == "from":
+            made.ref = self.reference()
+            return made
+        self.take("(")
+        if word in ("exists", "induct"):
+            made.binder = self.binder()
+            self.take(",")
+        for part in range({"imply": 2, "weaken": 2, "induct": 3}.get(word, 0)):
+            made.preds.append(self.pred())
+            if word != "imply" or part == 0:
+                self.take(",")
+        if word != "imply":
+            self.read_parts(made)
+        self.take(")")
+        return made
+
+    def read_parts(self, made):
+        made.terms.append(self.read_term())
+        if made.word in ("trans", "either"):
+            self.take(",")
+            made.terms.append(self.read_term())
+        elif made.word == "psp":
+            self.take(",")
+            made.ref = self.reference()
+
+    def shown(self):
+        """For each obligation of a term the part of it that leaves it."""
+        return shown_by(self.term)
+
+
+def shown_by(term):
+    return [it for part in term.terms for it in shown_by(part)] + [term] * SHOWN.get(term.word, 0)
 
 
 class Sides:
@@ -56,11 +118,11 @@ class Sides:
 
     def of_rule(self):
         """The sides that the rule of the step gives."""
-        rule = self.step.rule
-        if rule.word == "term":
+        rule = Rule(self.step)
+        if rule.term:
             return self.of_term(rule.term)
         sides = [self.of_ref(ref) for ref in rule.refs]
-        if rule.word == "weaken step":
+        if rule.word == "weaken":
             return sides[0][0], str(self.plan.formula(self.step.q))
         if rule.word == "superpose":
             return sides[0]

@@ -9,7 +9,6 @@ word, and no proof. Runs begin at each initial state; where there are too many o
 document's own start alone, and then it says so. It exits with 10 where a step is violated, with 0 where SPIN finds none
 violated, and with 4 where it did not decide all. It wants spin and gcc, and the built program or the page's module.
 """
-import re
 import sys
 
 from unity_tool import schedules
@@ -46,9 +45,9 @@ def note(says):
 
 def chosen_steps(plan, names):
     """The steps of these names, or all."""
-    found = [it for it in plan.document.steps() if not names or it.name in names
-             or "%s.%s" % (it.program, it.name) in names]
-    known = {it.name for it in found} | {"%s.%s" % (it.program, it.name) for it in found}
+    found = [it for it in plan.steps if not names or it.name in names
+             or it.named() in names]
+    known = {it.name for it in found} | {it.named() for it in found}
     for name in names:
         if name not in known:
             raise Failure(64, "%s is no step of the document" % name)
@@ -61,26 +60,17 @@ def all_verdicts(plan, steps, limits, chosen):
     programs = list(dict.fromkeys(it.program for it in steps))
     for at, program in enumerate(programs):
         mine = [it for it in steps if it.program == program]
-        bounds = bounds_of(plan.document.text, program) if chosen.rounds else None
         try:
             asked = Asked(plan, program, limits.part(len(programs) - at), chosen.start)
-            yield from ((asked, it) for it in asked.verdicts(mine, bounds))
+            yield from ((asked, it) for it in asked.verdicts(mine, chosen.rounds))
         except TooLarge as fault:
             note("%s: not decided: %s" % (program, fault.says))
             yield None, None
 
 
-def bounds_of(text, program):
-    """The bound of each claim of progress of a program, where its steps follow their rules."""
-    answer, _ = unity(["watch"], "%s\nschedule %s : end\n" % (
-        re.sub(r"(?m)^(schedule|certificates)\b[^\0]*", "", text), program))
-    return {name: int(bound) for name, bound in re.findall(r"(?m)^(\S+) (?:leadsto|until|detects) (\d+)$", answer)}
-
-
-def tell_run(asked, verdict, text):
+def tell_run(asked, verdict):
     """Writes the document with the run of a violation, and says what `watch` says of it; gives the status."""
-    bound = bounds_of(text, asked.model.program).get(verdict.named(), 0)
-    made = asked.document(verdict.found, bound)
+    made = asked.document(verdict.found, verdict.step.bound or 0)
     answer, status = unity(["watch"], made)
     if status == VIOLATED and verdict.found.cycle is None:
         # (a search by breadth: no run is shorter)
@@ -115,7 +105,7 @@ def main(chosen):
         if verdict:
             note(verdict.line())
         if verdict and verdict.found.verdict == running.VIOLATED and status != VIOLATED:
-            status = tell_run(asked, verdict, text)
+            status = tell_run(asked, verdict)
         elif verdict is None or verdict.found.verdict == running.UNDECIDED:
             status = status or UNDECIDED
     return status

@@ -51,15 +51,15 @@ def say(answer):
 
 def part_of(plan, program, name):
     """The document with this step of the program's proof, and what it is made of."""
-    step = plan.document.find(program, name)
+    step = plan.find(program, name)
     if step is None:
-        names = ", ".join(it.name for it in plan.document.steps() if it.program == program)
+        names = ", ".join(it.name for it in plan.steps if it.program == program)
         raise Failure(64, "the proof of %s has no step %s, but %s" % (program, name, names or "none"))
-    if step.rule.word != "text" or not step.using:
+    if step.rule != "text" or not step.using:
         return slice_of(plan, closure(plan, [step]))
     text = plan.document.text
     alone = text[step.start:text.rindex("using", step.start, step.using[0].start)].rstrip() + ";"
-    whole = [it for it in plan.document.steps() if it.program == program and it.kind == "defined"]
+    whole = [it for it in plan.steps if it.program == program and it.kind == "defined"]
     return slice_of(plan, {step} | closure(plan, whole), {step: alone})
 
 

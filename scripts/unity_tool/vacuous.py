@@ -35,8 +35,7 @@ class Question:
 
     def __init__(self, plan, step):
         self.plan, self.step, self.fresh = plan, step, unused(plan.document.text)
-        steps = next(proof.steps for proof in plan.document.proofs if step in proof.steps)
-        self.invariants = [it for it in steps if it.kind == "invariant"]
+        self.invariants = [it for it in plan.steps_beside(step) if it.kind == "invariant"]
 
     def left(self):
         """The left side, with names of its own for the parameters, which the invariants may bind."""
@@ -73,9 +72,9 @@ class Question:
         return kept
 
 
-def tell(name, plan, step, needed):
+def tell(name, step, needed):
     """Prints what is known of a step, where it is no good news, and gives whether it says nothing."""
-    place = "%s:%d: %s.%s" % (name, plan.document.line(step.start), step.program, step.name)
+    place = "%s:%d: %s" % (name, step.told.line, step.named())
     if isinstance(needed, int):
         if needed != REFUTED:
             print("%s is not decided" % place)
@@ -95,9 +94,9 @@ def main(chosen):
         show(answer.text, chosen.file, text)
         return answer.status
     plan = Plan(text.decode("latin-1"))
-    steps = [it for it in plan.document.steps() if it.kind in KINDS and not is_never(it)]
+    steps = [it for it in plan.steps if it.kind in KINDS and not is_never(it)]
     with concurrent.futures.ThreadPoolExecutor(os.cpu_count()) as pool:
         found = list(pool.map(lambda step: Question(plan, step).needed(), steps))
-    count = sum([tell(chosen.file, plan, *each) for each in zip(steps, found)])
+    count = sum([tell(chosen.file, *each) for each in zip(steps, found)])
     print("%d steps looked at, %d of them say nothing" % (len(steps), count))
     return 1 if count else 0

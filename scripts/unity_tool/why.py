@@ -14,46 +14,55 @@ import os
 import re
 
 from unity_tool import prove
+from unity_tool.document import programs_in
 from unity_tool.files import read_document
 from unity_tool.formulas import choices, pieces, value_of
-from unity_tool.plan import Plan, closure, programs_in
+from unity_tool.plan import Plan, closure
 from unity_tool.probe import excluded, look, made_writes
 from unity_tool.program import unity
 from unity_tool.promela import second
 from unity_tool.refusals import explain_bad, explain_rejected, usual
-from unity_tool.sides import Sides
+from unity_tool.sides import Rule, Sides
+
+
+# where the reason for a refutation is known by its origin, what docs/WRITING.md says of it
+USUAL = {"shown": "breaks what a part of a union was proved under",
+         "begins": "of a `superpose` begins the layer, and not the program below",
+         "measure": "of an `induct` has the measure outside the range"}
 
 
 def say(text):
     print(text)
 
 
+def obligation_of(step, number):
+    """The obligation of a step that has this number in the document."""
+    return next(it for it in step.obligations if it.number == number)
+
+
+def say_obligation(step, it):
+    say("obligation %d, number %d of %d of %s: %s" % (
+        it.number, step.obligations.index(it) + 1, len(step.obligations), step.named(), it.says()))
+
+
 class Refutation:
     """A claim that is false at some values."""
 
     def __init__(self, plan, step, number, values):
-        self.plan, self.step = plan, step
-        document = plan.document
-        slots = [name for name in values if name.split("[")[0] in document.variables]
+        self.plan, self.step, self.obligation = plan, step, obligation_of(step, number)
+        slots = [name for name in values if name.split("[")[0] in plan.document.variables]
         self.values = {name: values[name] for name in slots}
         self.numbers = {name: int(value) for name, value in values.items() if name not in slots}
-        before = document.steps()[:document.steps().index(step)]
-        self.first = sum(len(plan.obligations(it)) for it in before)
-        self.obligations = plan.obligations(step)
-        self.obligation = self.obligations[number - self.first - 1]
-        self.number = number
 
     def formula(self, node):
         return self.plan.formula(node, self.numbers)
 
     def explain(self):
-        here = self.obligation
-        say("obligation %d, number %d of %d of %s.%s: %s" % (
-            self.number, self.number - self.first, len(self.obligations), self.step.program, self.step.name, here.says))
+        say_obligation(self.step, self.obligation)
         invariants = self.invariants()
-        reasons = [] if here.kind == "start" else self.reasons(invariants)
+        reasons = [] if self.obligation.kind() == "start" else self.reasons(invariants)
         self.show_names()
-        self.show(here)
+        self.show(self.obligation)
         for reason in reasons:
             say(reason)
 
@@ -61,26 +70,21 @@ class Refutation:
 
     def invariants(self):
         named = {ref.word for ref in self.step.using}
-        steps = next(proof.steps for proof in self.plan.document.proofs if self.step in proof.steps)
+        steps = self.plan.steps_beside(self.step)
         return [it for it in steps if it.kind == "invariant" and it is not self.step and it.name not in named]
 
     def reasons(self, invariants):
         """Which invariants the state breaks; else the state gets values at which all of them hold, where they can."""
-        place = self.plan.document.steps().index
         broken = [it for it in invariants if excluded(self.plan, self.values, [self.formula(it.p)]) is True]
-        above = [it for it in broken if place(it) < place(self.step)]
+        above = [it for it in broken if it.start < self.step.start]
         if above:
             names = ", ".join(it.name for it in above)
             return ["the state breaks %s: no run comes to it" % names,
                     usual("breaks an invariant that stands before")]
         if broken:
             return [self.below(it) for it in broken]
-        if self.obligation.kind == "shown":
-            return [usual("breaks what a part of a union was proved under")]
-        if self.obligation.kind == "begins":
-            return [usual("of a `superpose` begins the layer, and not the program below")]
-        if self.obligation.kind == "measure":
-            return [usual("of an `induct` has the measure outside the range")]
+        if self.obligation.kind() in USUAL:
+            return [usual(USUAL[self.obligation.kind()])]
         whole = excluded(self.plan, self.values, [self.formula(it.p) for it in invariants])
         if whole is True:
             return ["the state breaks the other invariants of the proof, taken together: name those that are needed"]
@@ -112,29 +116,39 @@ class Refutation:
                 ["%s: %s" % (word, ", ".join(some)) for word, some in (("true", true), ("false", false)) if some]))
 
     def show(self, here):
-        if here.inst:
+        """What is false at the state, or after the step."""
+        if here.instance():
             self.show_step(here)
-        elif here.kind == "start":
+        elif here.kind() == "start":
             say("an initial state, and this does not hold there:")
             self.show_false(self.formula(self.step.p))
-        elif here.kind == "implied":
+        elif here.kind() in ("implied", "left", "right"):
             self.show_implied(here)
-        elif here.kind == "measure":
-            measure = self.formula(here.measure.node)
-            told = look(self.plan, self.step.program, self.values, [(measure, True)]).before[0]
-            say("%s is %d, outside %s" % (measure, told, "..".join(str(value_of(it, {})) for it in here.ends)))
-        elif here.kind == "meant":
+        elif here.kind() == "measure":
+            self.show_measure(here)
+        elif here.kind() == "meant":
             say("at these numbers no statement has these indices")
-        elif here.kind == "begins":
-            say("an initial state of %s, and this of %s does not hold there:" % (self.step.program, here.below))
-            for one in programs_in(self.plan.document, here.below):
+        elif here.kind() == "begins":
+            layer, below = here.names()
+            say("an initial state of %s, and this of %s does not hold there:" % (layer, below))
+            for one in programs_in(self.plan.document, below):
                 if one.initially:
                     self.show_false(self.formula(one.initially))
-        elif here.kind == "shown":
-            name = here.says.split(",")[0]
-            found = [it for it in self.plan.document.steps() if it.name == name and it.kind == "invariant"]
+        elif here.kind() == "shown":
+            found = [it for it in self.plan.steps if it.name == here.names()[0] and it.kind == "invariant"]
             for it in found[:1]:
                 self.show_false(self.formula(it.p))
+
+    def part(self, here):
+        """The part of a proof term that leaves an obligation; nothing of a rule without a term."""
+        rule = Rule(self.step)
+        return rule.shown()[self.step.obligations.index(here)] if rule.term else None
+
+    def show_measure(self, here):
+        part = self.part(here)
+        measure = self.formula(part.preds[0])
+        told = look(self.plan, self.step.program, self.values, [(measure, True)]).before[0]
+        say("%s is %d, outside %s" % (measure, told, "..".join(str(value_of(it, {})) for it in part.binder[1])))
 
     def show_false(self, formula, after=None):
         """The parts of a formula that do not hold, before or after a step."""
@@ -144,23 +158,31 @@ class Refutation:
             if not holds:
                 say("  %s" % part)
 
+    def sides(self, here):
+        """The formula that holds, and the one that it does not give."""
+        part = self.part(here)
+        if part is None:
+            return self.formula(self.plan.step_of(self.step, self.step.refs[0]).q), self.formula(self.step.q)
+        if here.kind() == "implied":
+            return self.formula(part.preds[0]), self.formula(part.preds[1])
+        inner = [self.plan.read(text) for text in Sides(self.plan, self.step).of_term(part.terms[0])]
+        pair = (self.formula(part.preds[0]), inner[0]) if here.kind() == "left" else \
+            (inner[1], self.formula(part.preds[1]))
+        return [it.part(it.node, **self.numbers) for it in pair]
+
     def show_implied(self, here):
-        left, right = here.left, here.right
-        if getattr(here, "term", None):
-            text = Sides(self.plan, self.step).of_term(here.term)[here.side]
-            left, right = left or self.plan.read(text), right or self.plan.read(text)
-        left, right = left.part(left.node, **self.numbers), right.part(right.node, **self.numbers)
+        left, right = self.sides(here)
         cases = choices(right)
         say("%s holds at this state, and %s:" % (left, "this does not" if len(cases) == 1 else "none of these does"))
         if len(cases) == 1:
             self.show_false(right)
         for one in cases if len(cases) > 1 else []:
             say("  %s" % one)
-        if getattr(here, "side", None) == 0:
+        if here.kind() == "left":
             say(usual("of a `weaken` fits no case of the `either`"))
 
     def show_step(self, here):
-        program, name = self.step.program, here.inst
+        program, name = self.step.program, here.instance()
         told = look(self.plan, program, self.values, [], name)
         if told.undefined:
             say("%s is undefined here:" % name)
@@ -171,19 +193,18 @@ class Refutation:
         self.show_claim(here)
 
     def show_claim(self, here):
-        p = self.formula(self.step.p)
-        q = self.formula(self.step.q)
-        if here.kind == "kept" or (here.kind == "goes" and q is None):
+        p, q, name = self.formula(self.step.p), self.formula(self.step.q), here.instance()
+        if here.kind() == "keeps":
             say("after it this does not hold:")
-            self.show_false(p, here.inst)
-        elif here.kind == "goes":
+            self.show_false(p, name)
+        elif here.kind() == "goes":
             say("after it this of the left side does not hold:")
-            self.show_false(p, here.inst)
+            self.show_false(p, name)
             say("nor this of the right side:")
-            self.show_false(q, here.inst)
-        elif here.kind == "helps":
+            self.show_false(q, name)
+        elif here.kind() == "helps":
             say("after it this of the right side does not hold:")
-            self.show_false(q, here.inst)
+            self.show_false(q, name)
 
     def show_writes(self, made):
         """Which of the writes are undefined."""
@@ -212,19 +233,9 @@ def ends_of(ends):
 
 
 def show_step_line(plan, name, step):
-    document = plan.document
-    say("%s:%d" % (name, document.line(step.start)))
-    for line in document.text[step.start:step.end].split("\n"):
+    say("%s:%d" % (name, step.told.line))
+    for line in plan.document.text[step.start:step.end].split("\n"):
         say("  " + line.strip())
-
-
-def explain_budget(plan, step, number):
-    steps = plan.document.steps()
-    first = sum(len(plan.obligations(it)) for it in steps[:steps.index(step)])
-    each = plan.obligations(step)
-    say("obligation %d, number %d of %d of %s.%s: %s" % (
-        number, number - first, len(each), step.program, step.name, each[number - first - 1].says))
-    say("what multiplies cases: docs/WRITING.md; what the steps before cost: scripts/cost.sh")
 
 
 def explain(name, text, answer):
@@ -240,7 +251,7 @@ def explain(name, text, answer):
     plan = Plan(text)
     number = re.search(r"obligation (\d+)", rest)
     number = int(number.group(1)) if number else None
-    step = plan.document.find(named.group(1), named.group(2)) if named and named.group(1) else None
+    step = plan.find(named.group(1), named.group(2)) if named and named.group(1) else None
     if step:
         show_step_line(plan, name, step)
     if kind == "rejected":
@@ -249,7 +260,8 @@ def explain(name, text, answer):
         values = dict(line.split(" = ") for line in answer.split("\n")[1:] if " = " in line)
         Refutation(plan, step, number, values).explain()
     else:
-        explain_budget(plan, step, number)
+        say_obligation(step, obligation_of(step, number))
+        say("what multiplies cases: docs/WRITING.md; what the steps before cost: scripts/cost.sh")
 
 
 def is_proved(name, text):

@@ -1,7 +1,8 @@
 """Questions to SPIN about a proof: which claims are violated, and by which run."""
 import re
 
-from unity_tool.plan import Plan, programs_in
+from unity_tool.document import programs_in
+from unity_tool.plan import Plan
 from unity_tool.promela import claims
 from unity_tool.promela.model import Model
 from unity_tool.promela.running import HOLDS, VIOLATED, search
@@ -25,7 +26,7 @@ class Verdict:
         self.step, self.found, self.where, self.asked = step, found, where, asked
 
     def named(self):
-        return "%s.%s" % (self.step.program, self.step.name)
+        return self.step.named()
 
     def line(self):
         """One line for the reader; what SPIN does not find is its word, and no proof."""
@@ -84,14 +85,12 @@ class Asked:
                 return found
         return found._replace(states=states)
 
-    def verdicts(self, steps, bounds=None):
-        """What is said of steps, one after the other; with bounds, whether progress comes within them."""
-        progress = [it for it in steps if claims.is_progress(it)]
-        if bounds is not None:
-            progress = [it for it in steps if "%s.%s" % (it.program, it.name) in bounds]
+    def verdicts(self, steps, in_rounds=False):
+        """What is said of steps, one after the other; in rounds, whether progress comes within its bound."""
+        progress = [it for it in steps if (it.bound is not None if in_rounds else claims.is_progress(it))]
         self.now = self.limits.part(1 + bool(progress))
         yield from self.safety(steps)
-        if bounds is None and len(progress) > 1:
+        if not in_rounds and len(progress) > 1:
             self.now = self.limits.part(2)
             found = self.comes(progress)
             if found.verdict == HOLDS:
@@ -99,8 +98,7 @@ class Asked:
                 return
         for at, step in enumerate(progress):
             self.now = self.limits.part(len(progress) - at)
-            yield self.progress(step) if bounds is None else self.rounds(
-                step, bounds["%s.%s" % (step.program, step.name)])
+            yield self.rounds(step, step.bound) if in_rounds else self.progress(step)
 
     def safety(self, steps):
         """What one step shows: all claims in one run, and the others again where one is violated."""

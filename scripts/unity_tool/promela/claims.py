@@ -31,7 +31,7 @@ def cases_of(model, steps):
 
 def helper_of(step, known):
     """The instance that a step names after `with`."""
-    helper = getattr(step.rule, "helper", None)
+    helper = step.helper
     if helper is None:
         return None
     indices = [str(value_of(it, known)) for it in helper.arguments]
@@ -40,7 +40,7 @@ def helper_of(step, known):
 
 def is_progress(step):
     """Whether a claim is to come about, and no step by itself shows it."""
-    return step.kind in PROGRESS and getattr(step.rule, "helper", None) is None
+    return step.kind in PROGRESS and step.helper is None
 
 
 class Monitor:

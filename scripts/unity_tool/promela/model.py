@@ -1,6 +1,6 @@
 """A program as Promela: one process for each instance, so that SPIN's weak fairness is that of an execution. A process
 carries its instance out again and again."""
-from unity_tool.plan import programs_in
+from unity_tool.document import programs_in
 from unity_tool.promela import processes
 from unity_tool.promela.formulas import HEAD, Sayings, TooLarge
 from unity_tool.promela.ranges import ends_of, numbers, places_of, words_of

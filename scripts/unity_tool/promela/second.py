@@ -25,7 +25,7 @@ def tell(text, answer):
     if not named or not is_asked():
         return
     plan = Plan(text)
-    step = plan.document.find(named.group(1), named.group(2))
+    step = plan.find(named.group(1), named.group(2))
     values = dict(line.split(" = ") for line in answer.split("\n")[1:] if " = " in line)
     values = {name: value for name, value in values.items() if name.partition("[")[0] in plan.document.variables}
     ends = claims_to_come(plan, step)
@@ -43,7 +43,7 @@ def tell(text, answer):
 
 def claims_to_come(plan, step):
     """The claim of progress that fails, and the last one of its proof that rests on it."""
-    progress = [it for it in plan.document.steps() if it.program == step.program and it.kind in claims.PROGRESS]
+    progress = [it for it in plan.steps_beside(step) if it.kind in claims.PROGRESS]
     resting = [it for it in progress if it is not step and step.kind in claims.PROGRESS and step in closure(plan, [it])]
     return [it for it in progress if it is step] + resting[-1:]
 

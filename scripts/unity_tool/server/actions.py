@@ -5,10 +5,10 @@ import subprocess
 import sys
 import tempfile
 
+from unity_tool.plan import plan_of
 from unity_tool.program import unity
 from unity_tool.repository import SCRIPTS
 from unity_tool.schedules import Scheduled
-from unity_tool.server import told
 from unity_tool.server.texts import shown
 
 BUDGET, SCHEDULES, SEED = 1000000, "100", "1"
@@ -103,8 +103,8 @@ def unneeded(latin, _):
 
 def without(latin, named, word):
     """A text in which the step does not name this invariant after `using`."""
-    plan = told.plan_of(latin)
-    step = plan.document.find(*named.split("."))
+    plan = plan_of(latin)
+    step = plan.find(*named.split("."))
     each = [latin[it.start:it.end] for it in step.using if it.word != word]
     begin = latin.rindex("using", step.start, step.using[0].start)
     cut = latin[:begin].rstrip() if not each else latin[:begin] + "using "
@@ -113,21 +113,20 @@ def without(latin, named, word):
 
 def refuting_state(latin, chosen):
     """Begins the program at the state that refutes a step, with the statement at hand as the schedule."""
-    plan, answer = told.plan_of(latin), chosen.get("answer", "")
+    plan, answer = plan_of(latin), chosen.get("answer", "")
     named = re.match(r"refuted (\w+)\.(\w+) obligation (\d+)", answer)
-    if not plan or not named or not plan.document.find(*named.groups()[:2]):
+    step = plan.find(*named.groups()[:2]) if plan and named else None
+    obligation = step and next((it for it in step.obligations if it.number == int(named.group(3))), None)
+    if not obligation:
         raise Outcome("no step is refuted here")
-    step = plan.document.find(*named.groups()[:2])
     values = [line.split(" = ") for line in answer.split("\n")[1:] if " = " in line]
     values = [(name, value) for name, value in values if name.partition("[")[0] in plan.document.variables]
-    obligations = [it for one in plan.document.steps() for it in plan.obligations(one)]
-    instance = obligations[int(named.group(3)) - 1].inst
-    made = latin
+    made, instance = latin, obligation.instance()
     for program in reversed(parts_of(plan.document, step.program)):
         own = {it.name for it in program.declared}
         mine = ["%s = %s" % each for each in values if each[0].partition("[")[0] in own]
         made = started(made, program, ", ".join(mine))
-    plan = told.plan_of(made)
+    plan = plan_of(made)
     if not plan:
         raise Outcome("the state can't be written as a start")
     return Scheduled(plan, step.program).text([instance] if instance else []), \
@@ -158,7 +157,7 @@ def started(latin, program, values):
 
 def find_run(latin, chosen):
     """A random schedule on which a step is violated, shortened."""
-    plan = told.plan_of(latin)
+    plan = plan_of(latin)
     programs = [it.name for it in plan.document.proofs] if plan else []
     if chosen.get("program") in programs:
         programs = [chosen["program"]]

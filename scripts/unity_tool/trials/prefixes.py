@@ -14,7 +14,7 @@ from unity_tool import why
 from unity_tool.document import tokens_of
 from unity_tool.server import actions, answers
 from unity_tool.server.judge import BUDGET, Judge
-from unity_tool.server.outline import Outline
+from unity_tool.outline import Outline
 from unity_tool.server.texts import Text
 from unity_tool.trials.asking import ask, unity
 from unity_tool.trials.cases import Case, faults

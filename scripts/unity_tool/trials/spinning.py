@@ -1,10 +1,9 @@
 """SPIN against `unity`, where SPIN is there: what `check` accepts is violated in no state that SPIN finds, of small
 programs no run takes more rounds than the bound, and what SPIN finds violated `watch` finds violated too."""
 import os
-import re
 
 from unity_tool.plan import Plan
-from unity_tool.promela import claims, running
+from unity_tool.promela import running
 from unity_tool.promela.asked import Asked
 from unity_tool.promela.formulas import TooLarge
 from unity_tool.promela.running import Limits
@@ -17,38 +16,33 @@ FOLDERS = ("examples", "examples/causes")
 MOST_BYTES, MOST_INSTANCES, SECONDS, MEMORY = 60000, 6, 20, 2000
 
 
-def bounds_in(text):
-    return {name: int(bound) for name, bound in re.findall(r"(?m)^(\S+) (?:leadsto|until|detects) (\d+)$", text)}
-
-
 def compared(document):
     """What is wrong with what SPIN says of an accepted document, or of one that is not: each program by itself."""
     if unity("check", document.text()).status > 1:
         return
     plan = Plan(document.text().decode("latin-1"))
-    accepted = unity("prove 1000000", document.text())
-    bounds = bounds_in(unity("check", accepted.text).text.decode()) if accepted.status == 0 else {}
+    is_accepted = unity("prove 1000000", document.text()).status == 0
     for proof in plan.document.proofs:
         try:
             asked = Asked(plan, proof.name, Limits(SECONDS, MEMORY))
-            yield from (one for one in against(asked, proof, accepted.status == 0, bounds) if one)
+            steps = [it for it in plan.steps if it.program == proof.name]
+            yield from (one for one in against(asked, steps, is_accepted) if one)
         except TooLarge:
             continue
 
 
-def against(asked, proof, is_accepted, bounds):
-    for verdict in asked.safety(proof.steps):
+def against(asked, steps, is_accepted):
+    for verdict in asked.safety(steps):
         if verdict.found.verdict == running.VIOLATED:
             watched = unity("watch", asked.document(verdict.found).encode("latin-1"))
             yield "it is accepted, and SPIN says: " + verdict.line() if is_accepted else None
             yield "%s, and `watch` answers %d" % (verdict.line(), watched.status) if watched.status == 0 else None
         elif "does not take" in verdict.found.why:
             yield verdict.line()
-    for step in proof.steps if len(asked.model.instances) <= MOST_INSTANCES else []:
-        named = "%s.%s" % (step.program, step.name)
-        if step.kind in claims.PROGRESS and named in bounds:
-            verdict = asked.rounds(step, bounds[named])
-            yield "%s, of bound %d" % (verdict.line(), bounds[named]) \
+    for step in steps if is_accepted and len(asked.model.instances) <= MOST_INSTANCES else []:
+        if step.bound is not None:
+            verdict = asked.rounds(step, step.bound)
+            yield "%s, of bound %d" % (verdict.line(), step.bound) \
                 if verdict.found.verdict == running.VIOLATED else None
 
 

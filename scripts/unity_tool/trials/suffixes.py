@@ -6,7 +6,7 @@ import os
 import re
 from typing import Callable, NamedTuple
 
-from unity_tool.plan import Plan
+from unity_tool import obligations
 from unity_tool.repository import TOP
 from unity_tool.trials.asking import script, unity
 from unity_tool.trials.cases import faults, other_answer, other_status, single, unlike
@@ -74,13 +74,17 @@ def upgrade(document):
     return other_answer(0, first.replace(b"1", b"2", 1) + b"\n" + rest, came)
 
 
-def counted(suffix):
-    """The scripts count as many obligations as `check` accepts."""
+def told(suffix):
+    """`obligations` tells of the steps and obligations that `check` accepts, and their numbers are 1, 2 and so on."""
     def attempt(document):
-        plan = Plan(document.text().decode("latin-1"))
-        count = sum(len(plan.obligations(step)) for step in plan.document.steps())
-        wanted = re.match(rb"accepted \d+ steps (\d+) obligations\n", document.wanted(suffix)).group(1)
-        return unlike(wanted.decode(), str(count), "count")
+        came = unity("obligations", document.text())
+        lines = came.text.decode("latin-1").splitlines()
+        steps = list(obligations.steps_in(lines))
+        numbers = [it.number for step in steps for it in step.obligations]
+        head = "accepted %s steps %s obligations" % obligations.HEAD.fullmatch(lines[0]).groups()
+        says = "\n".join([head] + ["%s %s" % (it.named(), it.record()) for it in steps]) + "\n"
+        return faults(other_status(0, came), unlike(document.wanted(suffix).decode("latin-1"), says),
+                      unlike(list(range(1, len(numbers) + 1)), numbers, "list"))
     return attempt
 
 
@@ -136,9 +140,9 @@ SUFFIXES = [
     Row(".expected", "what `check` says", answer(".expected", judging)),
     Row(".expected", "its upgrade", upgrade, lambda document: not document.is_mistake()),
     Row(".expected", "its proof", proof(".expected"), is_accepted, 2),
-    Row(".expected", "its obligations", counted(".expected"), is_accepted),
+    Row(".expected", "its obligations", told(".expected"), is_accepted),
     Row(".accepted", "its proof", proof(".accepted"), seconds=2),
-    Row(".accepted", "its obligations", counted(".accepted")),
+    Row(".accepted", "its obligations", told(".accepted")),
     Row(".refuted", "what `prove` says", answer(".refuted", BUDGET), seconds=1),
     Row(".run", "its run", answer(".run", running)),
     Row(".fixed", "its run to a fixed point", answer(".fixed", resting)),
