@@ -53,13 +53,18 @@ class Start:
 
     def choices(self):
         """How many ways there are to begin, before the initially section is asked."""
-        count, done = 1, set()
+        count, done = 1, {}
         for variable, _, slot in self.slots():
             low, high = ends_of(variable)
-            if slot not in self.told and slot not in self.given and self.alike.get(slot) not in done:
-                count *= high - low + 1
-            done.add(slot)
+            is_chosen = self.value(slot, (low, high)) is None and done.get(self.alike.get(slot)) != (low, high)
+            count *= high - low + 1 if is_chosen else 1
+            done[slot] = low, high
         return count
+
+    def value(self, slot, ends):
+        """The one value that a slot can have at the start, or nothing."""
+        value = self.told.get(slot, self.given.get(slot))
+        return value if value is not None and ends[0] <= value <= ends[1] else None
 
     def lines(self):
         """Gives each slot its values, and asks each fact once the slots that it is about have theirs."""
@@ -74,8 +79,9 @@ class Start:
 
     def choice(self, variable, slot, done):
         low, high = ends_of(variable)
-        if slot in self.told or slot in self.given:
-            return "%s = %d;" % (slot, self.told.get(slot, self.given.get(slot)))
+        value = self.value(slot, (low, high))
+        if value is not None:
+            return "%s = %d;" % (slot, value)
         if done.get(self.alike.get(slot)) == (low, high):
             return "%s = %s;" % (slot, self.alike[slot])
         if high - low < MOST_LISTED:

@@ -14,6 +14,8 @@ from unity_tool.trials.documents import documents
 FOLDERS = ("examples", "examples/causes")
 # of longer documents nothing is asked; and of so many instances at most the rounds
 MOST_BYTES, MOST_INSTANCES, SECONDS, MEMORY = 60000, 6, 20, 2000
+# where an answer is wanted it gets so many seconds, since the machine may have other work
+PATIENCE = 900
 
 
 def compared(document):
@@ -56,7 +58,7 @@ def starves(room):
     del room
     if not running.is_there():
         return
-    came = ask(["scripts/unity-tool", "spin", "tests/limits/starved.unity", "comes"])
+    came = ask(["scripts/unity-tool", "spin", "--seconds", PATIENCE, "tests/limits/starved.unity", "comes"])
     watched = unity("watch", came.text)
     yield "SPIN on a lock that starves", None if came.status == watched.status == 10 else \
         "status %d, and of `watch` %d:\n%s" % (came.status, watched.status, came.notes.decode())
