@@ -1,11 +1,11 @@
 """Changes the documents of examples/ at random, and compares what two ways of one question say of each.
 
-A document is read whole and byte by byte; what `prove` and `upgrade` write is checked; the schedule that `run` follows
-is replayed, and watched; and `fixed` is a run up to a place. Each time both must say the same, and no question may end
-by a signal. After so many seconds it counts what it did on standard error, and exits with status 0. The first document
-of which the two say different things goes to standard output, and what they say to standard error; then the status is
-1. The same SEED, a number, gives the same documents in the same order. A question that takes 5 seconds or 1 GB is given
-up. It wants the built program.
+A document is read whole and byte by byte; what `prove` and `upgrade` write is checked; `obligations` tells of the steps
+that `check` accepts; the schedule that `run` follows is replayed, and watched; and `fixed` is a run up to a place. Each
+time both must say the same, and no question may end by a signal. After so many seconds it counts what it did on
+standard error, and exits with status 0. The first document of which the two say different things goes to standard
+output, and what they say to standard error; then the status is 1. The same SEED, a number, gives the same documents in
+the same order. A question that takes 5 seconds or 1 GB is given up. It wants the built program.
 """
 import glob
 import os
@@ -20,6 +20,7 @@ import time
 
 from unity_tool.document import TOKEN
 from unity_tool.files import write
+from unity_tool.obligations import accepted_text
 from unity_tool.plan import Plan
 from unity_tool.program import need_built
 from unity_tool.repository import TOP, UNITY
@@ -207,6 +208,7 @@ class Questions:
             self.same(checked, self.ask(["check"], text, True), "`check` of the whole and byte by byte")
         self.proved(text, checked)
         self.upgraded(text, checked)
+        self.listed(text, checked)
         if checked[0] < 2:
             self.runs(text, checked)
 
@@ -231,6 +233,15 @@ class Questions:
             self.same(checked, self.ask(["check"], upgraded[1]), "`check` before and after `upgrade`")
         else:
             self.same(checked, upgraded, "`check` and `upgrade`")
+
+    def listed(self, text, checked):
+        """`obligations` tells of the steps that `check` accepts, and refuses what it refuses. Where a certificate is
+        wrong `check` looks at no later step."""
+        told = self.ask(["obligations"], text)
+        if checked[0] == 0 and told[0] == 0 and told[1] is not None:
+            told = (0, accepted_text(told[1]))
+        if not re.match(rb"rejected 5\d ", checked[1]):
+            self.same(checked, told, "`check` and `obligations`")
 
     def runs(self, text, checked):
         """`replay` of the choices that `run` makes, `fixed`, and `watch`."""

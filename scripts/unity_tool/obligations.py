@@ -103,3 +103,11 @@ def steps_of(text):
     """The steps of a document in bytes; nothing where it does not read, or a step does not follow its rule."""
     answer = ask(["obligations"], text)
     return list(steps_in(answer.text.decode("latin-1").splitlines())) if answer.status == 0 else None
+
+
+def accepted_text(text):
+    """What `check` writes of a document whose certificates are right, by what `obligations` writes of it."""
+    lines = text.decode("latin-1").splitlines()
+    head = "accepted %s steps %s obligations" % HEAD.fullmatch(lines[0]).groups()
+    steps = ["%s %s" % (it.named(), it.record()) for it in steps_in(lines)]
+    return "".join(line + "\n" for line in [head, *steps]).encode("latin-1")

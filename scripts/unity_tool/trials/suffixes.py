@@ -78,12 +78,9 @@ def told(suffix):
     """`obligations` tells of the steps and obligations that `check` accepts, and their numbers are 1, 2 and so on."""
     def attempt(document):
         came = unity("obligations", document.text())
-        lines = came.text.decode("latin-1").splitlines()
-        steps = list(obligations.steps_in(lines))
+        steps = obligations.steps_in(came.text.decode("latin-1").splitlines())
         numbers = [it.number for step in steps for it in step.obligations]
-        head = "accepted %s steps %s obligations" % obligations.HEAD.fullmatch(lines[0]).groups()
-        says = "\n".join([head] + ["%s %s" % (it.named(), it.record()) for it in steps]) + "\n"
-        return faults(other_status(0, came), unlike(document.wanted(suffix).decode("latin-1"), says),
+        return faults(other_status(0, came), unlike(document.wanted(suffix), obligations.accepted_text(came.text)),
                       unlike(list(range(1, len(numbers) + 1)), numbers, "list"))
     return attempt
 
