@@ -11,10 +11,15 @@ use obligations::{
     Cert, Node, TooLargeError, has_room, height, make, make_in, need, next_param, open_branch,
     settle, units, with_variables,
 };
+use schedule_replay::Buffer;
+use solver_scripts::put_script;
 use std::test::Fail;
-use unity_base::{Seq, Shared};
+use unity_base::{MemSink, Seq, Shared};
 
 const NODES: u32 = 65536;
+
+// More bytes than the script of a formula of so many nodes has here.
+const ROOM: usize = 1 << 20;
 
 fn bit(name: u32) -> CSlot
     ensures low { result.range.lo ≡ pos 0 }
@@ -76,12 +81,39 @@ fn is_settled(alloc: Global, f: &CForm) -> Result<bool, AllocError>
     Ok(2 <= branch.facts.len() && (some || !some))
 }
 
+// Whether the script of the formula's obligation is written whole.
+fn is_written(alloc: Global, f: &CForm) -> Result<bool, AllocError>
+    requires { IsDeepForm f.now }
+{
+    let ranges = [Range { lo: 0, hi: 1 }];
+    let o = with_variables(
+        alloc,
+        copy_form(alloc, f)?,
+        ranges.as_slice(),
+        [].as_slice(),
+    )?;
+    let words = Seq::new(alloc);
+    let slots = [bit(0)];
+    let mut sink = MemSink::new(alloc, ROOM, Vec::new(alloc))?;
+    let mut text = Buffer::new();
+    put_script(
+        &mut text,
+        &mut sink,
+        words.as_slice(),
+        slots.as_slice(),
+        [].as_slice(),
+        &o,
+    );
+    Ok(text.finish(&mut sink).is_ok())
+}
+
 fn goes_through(alloc: Global, f: CForm) -> Result<bool, AllocError>
     requires { IsDeepForm f }
 {
     let settled = is_settled(alloc, &f)?;
+    let written = is_written(alloc, &f)?;
     let in_pool = is_made_in_pool(alloc, &f)?;
-    Ok(is_made(alloc, f)? && settled && in_pool)
+    Ok(is_made(alloc, f)? && settled && written && in_pool)
 }
 
 // The height, the need, and the facts of the first branch and of that branch with the formula settled,
