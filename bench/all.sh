@@ -1,15 +1,14 @@
 #!/bin/bash
-# One table of one run: how long the commands take, and how much memory: bash bench/all.sh [FOLDER [PROGRAM]]
+# One table of one run: how long the commands take, and how much memory: bash bench/all.sh [PROGRAM]
 #
 # It has `demo` for rings of 8 to 64 places; `prove` of each example that is proved, and `check` of what was found;
 # `check` of about 50 MB of certificates, in MB a second and bytes of memory for each byte of the document; and the
-# peak memory of each. Where FOLDER has files NAME.smt2 and the provers z3 and cvc5 are installed, their times on
-# these files stand below. A time is the best of three. It runs the built program (`bash scripts/test.sh` builds it),
-# or the one that is named. Run it with nothing else at work.
+# peak memory of each. Where z3 and cvc5 are installed, their times on what `obligations` writes of each stand below. A
+# time is the best of three. It runs the built program (`bash scripts/test.sh` builds it), or the one that is named. Run
+# it with nothing else at work.
 set -eu
 top=$(cd "$(dirname "$0")/.." && pwd)
-folder=${1:-}
-program=${2:-$top/crates/unity/out/unity}
+program=${1:-$top/crates/unity/out/unity}
 work=$(mktemp -d)
 trap 'rm -rf "$work"' EXIT
 
@@ -40,16 +39,16 @@ for document in "$top"/examples/*.unity; do
 done
 echo
 bash "$top/bench/check.sh" "$program"
-if [ -n "$folder" ]; then
-    echo
-    echo "| file | best time | peak memory | first line |"
-    echo "|---|---|---|---|"
-    for file in "$folder"/*.smt2; do
-        for prover in z3 "cvc5 --incremental"; do
-            if command -v "${prover%% *}" > /dev/null; then
-                # shellcheck disable=SC2086
-                row "$(basename "$file") by ${prover%% *}" /dev/null $prover "$file"
-            fi
-        done
+echo
+echo "| obligations | best time | peak memory | first line |"
+echo "|---|---|---|---|"
+for document in "$top"/examples/*.unity; do
+    name=$(basename "$document" .unity)
+    "$program" obligations < "$document" > "$work/script.smt2" || continue
+    for prover in z3 "cvc5 --incremental"; do
+        if command -v "${prover%% *}" > /dev/null; then
+            # shellcheck disable=SC2086
+            row "$name by ${prover%% *}" /dev/null $prover "$work/script.smt2"
+        fi
     done
-fi
+done

@@ -4,9 +4,10 @@
 # Texts of a hundred bytes up to some hundred KB that make the program copy, count or look up much. The first table has
 # each with the processor time and the peak memory of one command, its status and what it says first. The second has the
 # growth: each document at a size and at twice the size, and how many times the time; the aim is 2.2 at most, and what
-# is above it is marked. A run gets 120 seconds and 4 GB of memory; status 9 says that this was not enough, 124 that it
-# took too long, and 139 that the stack did not suffice. It runs the built program (`bash scripts/test.sh` builds it),
-# or the one that is named. Run it with nothing else at work.
+# is above it is marked. The third has `obligations` beside `check`, with the length of the script and how many times
+# the time and the memory it took. A run gets 120 seconds and 4 GB of memory; status 9 says that this was not enough,
+# 124 that it took too long, and 139 that the stack did not suffice. It runs the built program (`bash scripts/test.sh`
+# builds it), or the one that is named. Run it with nothing else at work.
 set -eu
 top=$(cd "$(dirname "$0")/.." && pwd)
 program=${1:-$top/crates/unity/out/unity}
@@ -231,6 +232,22 @@ growth() {
     }'
 }
 
+# listed_row FAMILY SIZES: of the third table. The script goes through a pipe, since it may be long.
+listed_row() {
+    local one
+    # shellcheck disable=SC2086
+    "$1" $2 > "$work/document"
+    one=$(used "$work/document" check)
+    (ulimit -Sv 4194304 && exec env time -f "%U %S %M" -o "$work/used" timeout 120 "$program" obligations) \
+        < "$work/document" 2> /dev/null | wc -c > "$work/length"
+    tail -n 1 "$work/used" | awk -v name="$1 $2" -v one="$one" -v size="$(cat "$work/length")" '{
+        split(one, check, " ")
+        time = $1 + $2; base = check[1] > 0.01 ? check[1] : 0.01
+        printf "| %s | %.2f s, %.0f MB | %.2f s, %.0f MB | %.0f KB | %.1f | %.1f |\n", name, check[1], check[2] / 1024,
+            time, $3 / 1024, size / 1024, (time > 0.01 ? time : 0.01) / base, $3 / check[2]
+    }'
+}
+
 least() {
     local family=$1 size=$2
     shift 2
@@ -281,3 +298,21 @@ growth pairs_of_facts 200 prove 1000000
 growth steps_from_steps 20000 prove 1000000
 growth many_names 2000 check
 growth flat_sum 16000 check
+echo
+echo "| document | \`check\` | \`obligations\` | script | times the time | times the memory |"
+echo "|---|---|---|---|---|---|"
+listed_row sum_in_itself 20000
+listed_row sum_in_statements 4096
+listed_row claim_over_statements 512
+listed_row wide_claim_over_statements 256
+listed_row used_often 1000
+listed_row always_names 1000
+listed_row writes_to_one "16000 30"
+listed_row open_writes_to_one 16000
+listed_row reads_within_reads 10900
+listed_row pairs_of_facts 450
+listed_row steps_from_steps 1600
+listed_row many_names 4000
+listed_row deep_sum 32758
+listed_row deep_and 32750
+listed_row flat_sum 32760

@@ -1,11 +1,10 @@
 #!/usr/bin/env python3
-"""The table at the head of docs/PERFORMANCE.md, from one run: python3 bench/today.py [--program P] [--obligations F]
+"""The table at the head of docs/PERFORMANCE.md, from one run: python3 bench/today.py [--program P]
 
 For each of ten documents of examples/ it has the obligations, the units of all certificates together and the most of
 one, and what `prove` and `check` of what it found take: thousandths of a second of processor, the least of three, with
-the start of the process. Where the folder F has files NAME.smt2 with the same obligations and z3 and cvc5 are there,
-their times stand beside; where a file has another number of obligations, that number does too. The first lines name
-the day, the processor, how many there are, and the load. Run it with nothing else at work."""
+the start of the process. Where z3 and cvc5 are there, their times on what `obligations` writes stand beside. The first
+lines name the day, the processor, how many there are, and the load. Run it with nothing else at work."""
 import argparse
 import os
 import re
@@ -47,26 +46,23 @@ def units(path):
     return [len(counts), sum(counts), max(counts, default=0)]
 
 
-def peer_times(name, count, folder, room):
-    """The times of the peers on the obligations of a document, or what is missing."""
-    file = os.path.join(folder or "", name + ".smt2")
+def peer_times(document, program, room):
+    """The times of the peers on the obligations of a document."""
+    script = os.path.join(room, "script.smt2")
+    with open(document, "rb") as given, open(script, "wb") as made:
+        subprocess.run([program, "obligations"], stdin=given, stdout=made, check=True)
     for words in PEERS:
-        if not folder or not os.path.isfile(file) or not shutil.which(words[0]):
-            yield "-"
-            continue
-        with open(file, encoding="utf-8") as text:
-            asked = text.read().count("(check-sat)")
-        took = least([*words, file], os.devnull, os.path.join(room, "said"))
-        yield took if asked == count else "%s (of %d)" % (took, asked)
+        is_there = shutil.which(words[0])
+        yield least([*words, script], os.devnull, os.path.join(room, "said")) if is_there else "-"
 
 
-def row(name, program, folder, room):
+def row(name, program, room):
     """The cells of a document."""
     document, found = os.path.join(TOP, "examples", name + ".unity"), os.path.join(room, "found")
     prove = least([program, "prove", "1000000"], document, found)
     counts = units(found)
     check = least([program, "check"], found, os.path.join(room, "said"))
-    return [name, *map("{:,}".format, counts), prove, check, *peer_times(name, counts[0], folder, room)]
+    return [name, *map("{:,}".format, counts), prove, check, *peer_times(document, program, room)]
 
 
 def machine():
@@ -79,7 +75,6 @@ def machine():
 def main():
     parser = argparse.ArgumentParser(description=__doc__, formatter_class=argparse.RawDescriptionHelpFormatter)
     parser.add_argument("--program", default=os.path.join(TOP, "crates", "unity", "out", "unity"), help="the program")
-    parser.add_argument("--obligations", metavar="F", help="a folder of files NAME.smt2")
     given = parser.parse_args()
     if not os.access(given.program, os.X_OK):
         print("%s is not built: bash scripts/build.sh" % given.program, file=sys.stderr)
@@ -88,7 +83,7 @@ def main():
     print("|---|---|---|---|---|---|---|---|")
     with tempfile.TemporaryDirectory() as room:
         for name in NAMES:
-            print("| %s |" % " | ".join(row(name, given.program, given.obligations, room)), flush=True)
+            print("| %s |" % " | ".join(row(name, given.program, room)), flush=True)
     print("\nload at the end: %.1f" % os.getloadavg()[0])
     return 0
 
