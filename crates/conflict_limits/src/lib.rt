@@ -9,11 +9,12 @@ mod partners;
 mod propagation;
 mod queue;
 mod reasons;
+mod rounds;
 mod trees;
 
 pub use events::{Conflict, Event, Limit, Reach, Reason, Weighted};
 pub use limits::{Limits, LimitsMark, no_limits};
 pub use partners::has_partner;
 pub use propagation::propagate;
-pub use reasons::{Pair, Round, Source, chain_round};
+pub use rounds::{Pair, Round, Source};
 pub use trees::{LeafRound, Step, Tree, Trees, no_trees};

@@ -2,66 +2,88 @@
 //! rounded.
 use crate::events::{Event, Reason, Weighted};
 use crate::limits::Limits;
+use crate::rounds::{Pair, Round, Source, in_order};
 use conflict_tables::{Stop, at, common_divisor, plus, put, repeated, times};
-use std::alloc::{AllocError, Global};
+use std::alloc::Global;
 use unity_base::Seq;
 
-/// How deep rounds may rest on rounds.
-const DEPTH: u32 = 64;
-
-/// What a multiple is of: the item at a place, or a round of the same leaf.
-#[derive(Clone, Copy, PartialEq, Eq)]
-pub enum Source {
-    /// The item at a place of the path.
-    Item(usize),
-    /// The round at a place of the leaf.
-    Round(usize),
-}
-
-/// A multiple of a fact.
-#[derive(Clone, Copy)]
-pub struct Pair {
-    /// How often it counts.
-    pub times: i64,
-    /// The fact.
-    pub source: Source,
-}
-
-/// A sum that is divided and rounded, for the sake of an event.
+/// Multiples of events that are to be replaced by what they rest on.
 #[derive(Drop)]
-pub struct Round {
-    event: usize,
-    /// What it is divided by.
-    pub divisor: i64,
-    /// What adds up to it.
-    pub pairs: Seq<Pair>,
+struct Multiples {
+    /// Of each event.
+    of: Seq<i64>,
+    /// How many of them are not zero.
+    open: usize,
 }
 
-/// A round of a chain, for the sake of no event.
-pub fn chain_round(divisor: i64, pairs: Seq<Pair>) -> Round {
-    Round {
-        event: usize::MAX,
-        divisor,
-        pairs,
+impl Multiples {
+    /// Puts a multiple in the place of an event's.
+    fn put(&mut self, event: usize, multiple: i64) -> Result<(), Stop> {
+        if at(&self.of, event)? != 0 {
+            self.open = self.open.saturating_sub(1);
+        }
+        if multiple != 0 {
+            self.open = self.open.saturating_add(1);
+        }
+        put(&mut self.of, event, multiple);
+        Ok(())
+    }
+
+    /// Adds a multiple of an event.
+    fn add(&mut self, event: usize, by: i64) -> Result<(), Stop> {
+        let total = plus(at(&self.of, event)?, by)?;
+        self.put(event, total)
+    }
+
+    /// Takes the multiple of an event out.
+    fn take(&mut self, event: usize) -> Result<i64, Stop> {
+        let by = at(&self.of, event)?;
+        if by != 0 {
+            self.put(event, 0)?;
+        }
+        Ok(by)
+    }
+
+    /// Multiplies those of the events before one.
+    fn multiply(&mut self, events: usize, by: i64) -> Result<(), Stop> {
+        for place in 0..events {
+            let multiple = at(&self.of, place)?;
+            if multiple != 0 {
+                put(&mut self.of, place, times(multiple, by)?);
+            }
+        }
+        Ok(())
     }
 }
 
-/// Multiples of events that are being replaced by what they rest on.
+/// The events that are rounded for the sake of a leaf, in the order in which they were met.
+#[derive(Drop)]
+struct Rounded {
+    events: Seq<usize>,
+    /// The number among them of each event of the path.
+    numbers: Seq<Option<usize>>,
+}
+
+impl Rounded {
+    /// The number of an event, which is a new one where it was not met before.
+    fn number(&mut self, event: usize) -> Result<usize, Stop> {
+        if let Some(number) = at(&self.numbers, event)? {
+            return Ok(number);
+        }
+        let number = self.events.len();
+        self.events.push(event)?;
+        put(&mut self.numbers, event, Some(number));
+        Ok(number)
+    }
+}
+
+/// What multiples of events were replaced by so far.
 #[derive(Drop)]
 struct Taking {
-    /// Of each event.
-    multiples: Seq<i64>,
     pairs: Seq<Pair>,
     /// By how much all was multiplied.
     scale: i64,
     spare: i64,
-}
-
-/// A multiple of a number of a list is added.
-fn add_multiple(list: &mut Seq<i64>, place: usize, by: i64) -> Result<(), Stop> {
-    let total = plus(at(list, place)?, by)?;
-    put(list, place, total);
-    Ok(())
 }
 
 impl Taking {
@@ -79,14 +101,8 @@ impl Taking {
         Ok(())
     }
 
-    /// Multiplies all by a number: the events before this one, the pairs and what there is to spare.
-    fn multiply(&mut self, events: usize, by: i64) -> Result<(), Stop> {
-        for place in 0..events {
-            let multiple = at(&self.multiples, place)?;
-            if multiple != 0 {
-                put(&mut self.multiples, place, times(multiple, by)?);
-            }
-        }
+    /// Multiplies all by a number: the pairs and what there is to spare.
+    fn multiply(&mut self, by: i64) -> Result<(), Stop> {
         for place in 0..self.pairs.len() {
             let pair = at(&self.pairs, place)?;
             let scaled = Pair {
@@ -127,7 +143,13 @@ impl Taking {
 }
 
 /// Replaces an event by the weaker one before it, where there is that much to spare. Whether it was.
-fn weakened(limits: &Limits, event: Event, by: i64, taking: &mut Taking) -> Result<bool, Stop> {
+fn weakened(
+    limits: &Limits,
+    event: Event,
+    by: i64,
+    multiples: &mut Multiples,
+    taking: &mut Taking,
+) -> Result<bool, Stop> {
     let Some(before) = event.before else {
         return Ok(false);
     };
@@ -135,7 +157,7 @@ fn weakened(limits: &Limits, event: Event, by: i64, taking: &mut Taking) -> Resu
     match gap.and_then(|gap| gap.checked_mul(by)) {
         Some(cost) if cost <= taking.spare => {
             taking.spare = taking.spare.saturating_sub(cost);
-            add_multiple(&mut taking.multiples, before, by)?;
+            multiples.add(before, by)?;
             Ok(true)
         }
         _ => Ok(false),
@@ -155,11 +177,13 @@ fn take_exact(
     number: usize,
     event: Event,
     by: i64,
+    multiples: &mut Multiples,
     taking: &mut Taking,
 ) -> Result<(), Stop> {
     let factor = missing(by, event.divisor)?;
     if factor != 1 {
-        taking.multiply(number, factor)?;
+        multiples.multiply(number, factor)?;
+        taking.multiply(factor)?;
     }
     let part = times(by, factor)?
         .checked_div(event.divisor)
@@ -168,100 +192,34 @@ fn take_exact(
         Reason::Item(item) => taking.add_pair(part, Source::Item(item)),
         Reason::Sum(span) => {
             for weighted in limits.weights(span) {
-                let multiple = times(part, weighted.times)?;
-                add_multiple(&mut taking.multiples, weighted.event, multiple)?;
+                multiples.add(weighted.event, times(part, weighted.times)?)?;
             }
             Ok(())
         }
     }
 }
 
-/// Replaces the multiple of one event.
-#[cycle(explaining)]
+/// Replaces the multiple of one event: by a weaker event, by its reason, or by a round where it was rounded.
 fn take_event(
-    alloc: Global,
-    depth: u32,
     limits: &Limits,
     number: usize,
+    multiples: &mut Multiples,
+    rounded: &mut Rounded,
     taking: &mut Taking,
-    rounds: &mut Seq<Round>,
 ) -> Result<(), Stop> {
-    let by = at(&taking.multiples, number)?;
+    let by = multiples.take(number)?;
     if by == 0 {
         return Ok(());
     }
-    put(&mut taking.multiples, number, 0);
     let event = limits.event(number)?;
-    if weakened(limits, event, by, taking)? {
+    if weakened(limits, event, by, multiples, taking)? {
         return Ok(());
     }
     if event.tight {
-        take_exact(limits, number, event, by, taking)
+        take_exact(limits, number, event, by, multiples, taking)
     } else {
-        let round = round_of(alloc, depth, limits, number, event, rounds)?;
-        taking.add_pair(by, Source::Round(round))
+        taking.add_pair(by, Source::Round(rounded.number(number)?))
     }
-}
-
-/// The number of the round for an event, where there is one.
-fn known_round(rounds: &Seq<Round>, number: usize) -> Option<usize> {
-    rounds
-        .as_slice()
-        .iter()
-        .position(|round| round.event == number)
-}
-
-/// The number of the round for an event.
-#[cycle(explaining)]
-fn round_of(
-    alloc: Global,
-    depth: u32,
-    limits: &Limits,
-    number: usize,
-    event: Event,
-    rounds: &mut Seq<Round>,
-) -> Result<usize, Stop> {
-    if let Some(round) = known_round(rounds, number) {
-        return Ok(round);
-    }
-    if depth == 0 {
-        return Err(Stop::Odd);
-    }
-    let round = match event.reason {
-        Reason::Item(item) => item_round(alloc, number, event, item)?,
-        Reason::Sum(span) => {
-            let weights = limits.weights(span);
-            let spare = spare_of(limits, event, weights)?;
-            let taking = explain(alloc, depth - 1, limits, weights, spare, rounds)?;
-            Round {
-                event: number,
-                divisor: times(event.divisor, taking.scale)?,
-                pairs: taking.pairs,
-            }
-        }
-    };
-    let place = rounds.len();
-    rounds.push(round)?;
-    Ok(place)
-}
-
-/// The round of one fact.
-fn item_round(
-    alloc: Global,
-    number: usize,
-    event: Event,
-    item: usize,
-) -> Result<Round, AllocError> {
-    let mut pairs = Seq::new(alloc);
-    pairs.push(Pair {
-        times: 1,
-        source: Source::Item(item),
-    })?;
-    Ok(Round {
-        event: number,
-        divisor: event.divisor,
-        pairs,
-    })
 }
 
 /// By how much the reason of an event may be less, and the event is still what it is rounded to.
@@ -283,44 +241,92 @@ fn spare_of(limits: &Limits, event: Event, weights: &[Weighted]) -> Result<i64, 
     )
 }
 
-/// What multiples of events rest on.
-#[cycle(explaining)]
+/// What multiples of events rest on, in one pass from the newest event back.
 fn explain(
     alloc: Global,
-    depth: u32,
     limits: &Limits,
     start: &[Weighted],
     spare: i64,
-    rounds: &mut Seq<Round>,
+    multiples: &mut Multiples,
+    rounded: &mut Rounded,
 ) -> Result<Taking, Stop> {
-    let mut count: usize = 0;
-    for weighted in start {
-        count = count.max(weighted.event.saturating_add(1));
-    }
     let mut taking = Taking {
-        multiples: repeated(alloc, 0, count)?,
         pairs: Seq::new(alloc),
         scale: 1,
         spare,
     };
+    let mut count: usize = 0;
     for weighted in start {
-        add_multiple(&mut taking.multiples, weighted.event, weighted.times)?;
+        multiples.add(weighted.event, weighted.times)?;
+        count = count.max(weighted.event.saturating_add(1));
     }
     for back in 0..count {
-        take_event(alloc, depth, limits, count - 1 - back, &mut taking, rounds)?;
+        if multiples.open == 0 {
+            break;
+        }
+        take_event(limits, count - 1 - back, multiples, rounded, &mut taking)?;
     }
     taking.lighten(true)?;
     Ok(taking)
 }
 
-/// The pairs of a sum that a clash of limits comes from, and before it the rounds.
+/// The round for an event: of one fact, or of what its reason rests on.
+fn round_of(
+    alloc: Global,
+    limits: &Limits,
+    number: usize,
+    multiples: &mut Multiples,
+    rounded: &mut Rounded,
+) -> Result<Round, Stop> {
+    let event = limits.event(number)?;
+    match event.reason {
+        Reason::Item(item) => {
+            let mut pairs = Seq::new(alloc);
+            pairs.push(Pair {
+                times: 1,
+                source: Source::Item(item),
+            })?;
+            Ok(Round {
+                divisor: event.divisor,
+                pairs,
+            })
+        }
+        Reason::Sum(span) => {
+            let weights = limits.weights(span);
+            let spare = spare_of(limits, event, weights)?;
+            let taking = explain(alloc, limits, weights, spare, multiples, rounded)?;
+            Ok(Round {
+                divisor: times(event.divisor, taking.scale)?,
+                pairs: taking.pairs,
+            })
+        }
+    }
+}
+
+/// The pairs of a sum that a clash of limits comes from, and the rounds before it, each behind those that it rests on.
 pub fn explained(
     alloc: Global,
     limits: &Limits,
     spare: i64,
-    rounds: &mut Seq<Round>,
-) -> Result<Seq<Pair>, Stop> {
-    let mut taking = explain(alloc, DEPTH, limits, limits.clash.as_slice(), spare, rounds)?;
+) -> Result<(Seq<Round>, Seq<Pair>), Stop> {
+    let count = limits.count_events();
+    let mut multiples = Multiples {
+        of: repeated(alloc, 0, count)?,
+        open: 0,
+    };
+    let mut rounded = Rounded {
+        events: Seq::new(alloc),
+        numbers: repeated(alloc, None, count)?,
+    };
+    let start = limits.clash.as_slice();
+    let mut taking = explain(alloc, limits, start, spare, &mut multiples, &mut rounded)?;
     taking.lighten(false)?;
-    Ok(taking.pairs)
+    let mut rounds = Seq::new(alloc);
+    for place in 0..count {
+        let Some(number) = rounded.events.get(place).copied() else {
+            break;
+        };
+        rounds.push(round_of(alloc, limits, number, &mut multiples, &mut rounded)?)?;
+    }
+    in_order(alloc, &rounds, &taking.pairs)
 }

@@ -2,7 +2,8 @@
 //! the path, so that a node that is dropped changes no name.
 use crate::events::Conflict;
 use crate::limits::Limits;
-use crate::reasons::{Pair, Round, Source, explained};
+use crate::reasons::explained;
+use crate::rounds::{Pair, Round, Source};
 use conflict_tables::{Opened, Span, Stop, append, at, items_in};
 use std::alloc::{AllocError, Global};
 use unity_base::Seq;
@@ -157,19 +158,21 @@ impl Trees {
     /// The number of a new leaf that closes a branch by a conflict of its limits. `Odd` where there is none, or a
     /// number has more than 64 bits.
     pub fn add_leaf(&mut self, alloc: Global, limits: &Limits) -> Result<usize, Stop> {
-        let mut rounds = Seq::new(alloc);
-        let mut pairs = Seq::new(alloc);
         match limits.conflict {
-            None => return Err(Stop::Odd),
-            Some(Conflict::Item(item)) => pairs.push(Pair {
-                times: 1,
-                source: Source::Item(item),
-            })?,
+            None => Err(Stop::Odd),
+            Some(Conflict::Item(item)) => {
+                let mut pairs = Seq::new(alloc);
+                pairs.push(Pair {
+                    times: 1,
+                    source: Source::Item(item),
+                })?;
+                self.add_chain(alloc, &Seq::new(alloc), &pairs)
+            }
             Some(Conflict::Clash { spare }) => {
-                pairs = explained(alloc, limits, spare, &mut rounds)?;
+                let (rounds, pairs) = explained(alloc, limits, spare)?;
+                self.add_chain(alloc, &rounds, &pairs)
             }
         }
-        self.add_chain(alloc, &rounds, &pairs)
     }
 
     /// The number of a new leaf of rounds and a sum. An error where memory is refused.

@@ -1,6 +1,6 @@
 //! Where nothing waits: a chain that the linear prover finds for the facts of the path.
 use crate::refuting::{PathFact, Search};
-use conflict_limits::{Pair, Round, Source, chain_round};
+use conflict_limits::{Pair, Round, Source};
 use conflict_tables::{Stop, Table, at, is_against, line_of, minus, times};
 use linear_prover::eliminate;
 use obligations::{Fact, Factors, Node};
@@ -93,7 +93,10 @@ fn leaf_of(search: &mut Search, chain: &[Node]) -> Result<Option<usize>, Stop> {
         match node {
             Node::Round(divisor, pairs) => {
                 let list = pairs_of(search.alloc, &search.path, pairs.as_slice())?;
-                rounds.push(chain_round(*divisor, list))?;
+                rounds.push(Round {
+                    divisor: *divisor,
+                    pairs: list,
+                })?;
             }
             Node::Sum(pairs) => {
                 let list = pairs_of(search.alloc, &search.path, pairs.as_slice())?;
