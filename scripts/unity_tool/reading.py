@@ -351,7 +351,10 @@ PARTS = [
     [(TOP, "bounds"), (TOP, "runs")],
     [(TOP, "answer"), (TOP, "follows"), (TOP, "starts"), (TOP, "violated"), (TOP, "unviolated"), (TOP, "kept"),
      ("one_answer", None)],
+    [(TOP, None)],
+    [("layers_project", None), ("scripts_mean", None)],
 ]
+LAWS = [("unity_cli", "Laws"), ("soundness", "Layers")]
 PAGE = "docs/READING.md"
 ROW = re.compile(r"^\| \[([^\]]*)\]\(\.\./([^)]*)\) \| (\d+) \|(.*)\|$")
 BEGIN = "<!-- written by scripts/reading.sh -->"
@@ -363,19 +366,16 @@ def parts_of(repo):
     known = {}
     taken = set()
     parts = []
-    for number in range(len(PARTS) + 1):
+    for part in PARTS:
         names, items = [], []
-        if number < len(PARTS):
-            for function, clause in PARTS[number]:
-                clauses = known.setdefault(function, clauses_of(repo, CRATE, function))
-                if clause and clause not in clauses:
-                    raise SystemExit("reading.sh: %s has no clause %s" % (function, clause))
-                taken.add((function, clause))
-                names.append(clause or function)
-                items.extend([clauses[clause]] if clause else clauses.values())
-        else:
-            rest = [clause for clause in known[TOP] if (TOP, clause) not in taken]
-            names, items = rest, [known[TOP][clause] for clause in rest]
+        for function, clause in part:
+            clauses = known.setdefault(function, clauses_of(repo, CRATE, function))
+            if clause and clause not in clauses:
+                raise SystemExit("reading.sh: %s has no clause %s" % (function, clause))
+            chosen = [clause] if clause else [name for name in clauses if (function, name) not in taken]
+            taken.update((function, name) for name in chosen)
+            names.extend(chosen if function == TOP else [function])
+            items.extend(clauses[name] for name in chosen)
         parts.append((names, items))
     before = {}
     answer = []
@@ -485,14 +485,19 @@ def show(top, parts, lines, number):
 
 
 def misquoted(repo):
-    """The clauses that the page quotes, and that the contract does not have word for word."""
+    """The clauses and the laws that the page quotes, and that the contract or its laws do not have word for word."""
     contract = "\n".join(function_in(repo, CRATE, TOP)[0].lines)
     with open(os.path.join(repo.top, PAGE), encoding="utf-8") as page:
-        quoted = re.findall(r"^ensures \w+ \{(?:.*\n)*?.*\}$", page.read(), re.M)
+        text = page.read()
+    quoted = re.findall(r"^ensures \w+ \{(?:.*\n)*?.*\}$", text, re.M)
     faults = ["%s: no clause is quoted" % PAGE] if not quoted else []
     for clause in quoted:
         if "\n".join("    " + line for line in clause.split("\n")) not in contract:
             faults.append("%s: the contract has no clause `%s ..`" % (PAGE, clause.split(" {")[0]))
+    laws = "\n\n".join("\n".join(repo.antt_file(crate, [file])[0].lines) for crate, file in LAWS)
+    for law in re.findall(r"^[A-Z]\w+ .*= (?:(?!```).+\n)+", text, re.M):
+        if "\n" + law not in laws:
+            faults.append("%s: there is no law `%s ..`" % (PAGE, law.split(" ")[0]))
     return faults
 
 
