@@ -22,7 +22,7 @@ async function documentOf(key, value) {
 }
 
 // The parts of an address, as #embed=step,prove&example=race has them.
-const partsOf = hash => new Map(hash.slice(1).split('&').filter(Boolean).map(it => {
+const addressParts = hash => new Map(hash.slice(1).split('&').filter(Boolean).map(it => {
   const at = it.indexOf('=');
   return at < 0 ? [it, ''] : [it.slice(0, at), it.slice(at + 1)];
 }));
@@ -30,7 +30,7 @@ const partsOf = hash => new Map(hash.slice(1).split('&').filter(Boolean).map(it 
 // What the address asks for: a document, an example or an exercise by its name, or a chapter by its number; whether
 // it asks for one.
 async function followAddress() {
-  const parts = partsOf(location.hash), key = parts.has('z') ? 'z' : 'd', example = parts.get('example');
+  const parts = addressParts(location.hash), key = parts.has('z') ? 'z' : 'd', example = parts.get('example');
   embed(parts.get('embed'));
   let found = true;
   if (data.documents[example] !== undefined) write(data.documents[example], example.split('/').pop());

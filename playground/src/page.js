@@ -107,7 +107,7 @@ function putFirst() {
   remember();
   if (exerciseOf(kept?.exercise)) showTask(kept.exercise);
   else if (kept?.lesson) showLesson(Number(kept.lesson));
-  if (kept?.hash === location.hash) embed(partsOf(location.hash).get('embed'));
+  if (kept?.hash === location.hash) embed(addressParts(location.hash).get('embed'));
   else followAddress();
 }
 

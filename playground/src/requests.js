@@ -52,7 +52,7 @@ function clear() {
   whole = '';
   walk.turn++;
   for (const it of ['status', 'answer', 'picture', 'meaning']) get(it).textContent = '';
-  const parts = ['place', 'next', 'address', 'rest', 'meaning', 'proved', 'refuted', 'walk', 'drawing'];
+  const parts = ['place', 'next', 'address', 'rest', 'meaning', 'proved', 'refuted', 'broken', 'walk', 'drawing'];
   for (const it of parts) get(it).hidden = true;
   get('written').open = true;
   get('written-name').textContent = 'what the program wrote';
@@ -75,13 +75,14 @@ async function ask(...words) {
 }
 
 // What is asked for beside an answer: of a violation the trace; of a proof, or of an answer that names a step, the
-// steps and the place; and of a refutation what its statement changes.
+// steps and the place; and of a refutation what its statement changes, and which part of the claim breaks.
 async function besides(words, source, { status, text = '' }) {
   const trace = status === VIOLATED ? (await asked(['replay'], source)).text ?? '' : undefined;
   const lists = status === 0 && ['check', 'prove'].includes(words[0]);
   const steps = lists || placeWords.test(text) ? await stepsOf(source, asked) : undefined;
   const place = await placeOf(source, text, asked, steps), refuted = refutationOf(text, steps);
   if (refuted?.instance) refuted.changes = await changesOf(source, refuted, asked);
+  if (refuted) refuted.broken = await brokenParts(source, refuted, stepNamed(steps, refuted.program, refuted.step), asked);
   return { trace, steps: lists ? steps : null, place, refuted };
 }
 
@@ -142,24 +143,26 @@ function showProved(steps) {
   get('written-name').textContent = `the document with its certificates, ${whole.length} letters`;
 }
 
-// The steps that were accepted, each with its kind and its bound in rounds, and a button that goes to its line.
+// The steps that were accepted, each with its kind, its bound in rounds and how many obligations it has, and a button
+// that goes to its line.
 function showSteps(steps) {
-  const source = sourceOf(), body = steps.map(({ program, step, byte, kind, bound }) => {
+  const source = sourceOf(), body = steps.map(({ program, step, byte, kind, bound, obligations: own }) => {
     const row = element('tr', ''), named = element('td', '');
     const go = () => goTo(lineOf(source, placeOfByte(source, byte).index));
     named.append(element('button', `${program}.${step}`, { onclick: go }));
-    row.append(named, element('td', kind), element('td', bound && `${bound} ${bound === '1' ? 'round' : 'rounds'}`));
+    const rounds = bound && `${bound} ${bound === '1' ? 'round' : 'rounds'}`;
+    row.append(named, element('td', kind), element('td', rounds), element('td', own.length || '', { className: 'count' }));
     return row;
   });
   const obligations = steps.reduce((sum, it) => sum + it.obligations.length, 0);
   const title = `${steps.length} steps are proved, by ${obligations} obligations`;
-  fillTable('proved', title, ['step', 'kind', 'bound'], body);
+  fillTable('proved', title, ['step', 'kind', 'bound', 'obligations'], body);
   get('proved').hidden = !steps.length;
 }
 
 // The values of a refutation, beside them what the statement makes of them, and above them what is refuted. What it
 // changes stands there too where the claim does not speak of it.
-function showRefuted({ program, step, number, origin, instance, values, changes }) {
+function showRefuted({ program, step, number, origin, instance, values, changes, broken }) {
   const slots = new Map((changes ?? []).map(([slot, old]) => [slot, old]));
   const made = new Map((changes ?? []).map(([slot, , now]) => [slot, now]));
   const body = [...new Map([...values, ...slots])].map(([slot, value]) => {
@@ -168,14 +171,28 @@ function showRefuted({ program, step, number, origin, instance, values, changes 
     if (changes) row.append(element('td', after ?? '', { className: after === undefined ? '' : 'new' }));
     return row;
   });
-  const head = ['variable', 'value', ...(changes ? [`after ${instance}`] : [])];
+  const head = ['variable', 'value', ...(changes ? [statementButton(program, instance)] : [])];
   const fault = changes === null ? `; ${instance} is undefined here` : '';
   fillTable('refuted', `${program}.${step}, obligation ${number}: ${origin}${fault}`, head, body);
+  get('broken').replaceChildren(...broken.flatMap(([words, parts]) => [element('p', words),
+    ...parts.map(it => element('pre', it))]));
+  get('broken').hidden = !broken.length;
+}
+
+// The head of what a statement makes of the values: a button that goes to the statement.
+function statementButton(program, instance) {
+  const source = sourceOf(), byte = labelByte(source, program, instance);
+  const go = () => goTo(lineOf(source, placeOfByte(source, byte).index));
+  return element('button', `after ${instance}`, { onclick: go, disabled: byte === undefined, title: 'the statement' });
 }
 
 function fillTable(id, title, names, body) {
   const head = element('tr', '');
-  head.append(...names.map(it => element('th', it, { scope: 'col' })));
+  head.append(...names.map(it => {
+    const cell = element('th', typeof it === 'string' ? it : '', { scope: 'col' });
+    if (typeof it !== 'string') cell.append(it);
+    return cell;
+  }));
   get(id).replaceChildren(element('caption', title), head, ...body);
   get(id).hidden = false;
 }

@@ -4,37 +4,23 @@
 const MOST_TRIED = 128, MOST_INSTANCES = 4097;
 const walk = { list: [], at: 0, program: '', source: '', names: [], turn: 0 };
 
-// The instances of a program, in their order: those of a run, up to the first that comes again.
+// The instances of a program, in their order: those of which `obligations` says what a step asks that it is defined.
 async function instancesOf(source, program) {
-  const alone = programsAlone(source), told = await asked(['run', program, String(MOST_INSTANCES)], alone);
-  const names = [];
-  let undefinedAt = false;
-  for (const line of told.text.split('\n').slice(2)) {
-    const undefinedName = /^undefined \d+ (.*)$/.exec(line)?.[1];
-    const found = /^\d+ (\w+(?:\[[-\d,]+\])?)( |$)/.exec(line)?.[1] ?? undefinedName;
-    if (!found || names.includes(found)) break;
-    names.push(found);
-    undefinedAt = Boolean(undefinedName);
-  }
-  if (told.status !== 0 && told.status !== 5) return { names, fault: told };
-  return { names: undefinedAt ? await namesBeyond(alone, program, names) : names };
+  const alone = programsAlone(source), [name] = freshNames(alone);
+  const told = await asked(['obligations'], `${alone}proof ${program}\n  ${name}: defined by text;\nend\n`);
+  const [step] = told.status === 0 ? stepsIn(told.text) : [];
+  return step ? { names: step.obligations.map(it => it.origin.replace(/ is defined$/, '')) } : namesOfRun(alone, program);
 }
 
-// Where a run ends in its first round, the names behind its end are tried: a schedule may name instances alone.
-async function namesBeyond(alone, program, names) {
-  const section = sectionsOf(alone).find(it => it.kind === 'program' && it.name === program);
-  const words = tokensOf(alone.slice(section.from, section.to)), found = [...names];
-  const labels = new Set(words.filter((_, k) => words[k + 1]?.word === ':').map(it => it.word));
-  const numbers = [...Array(16).keys()], ends = ['', ...numbers.map(it => `[${it}]`)];
-  for (const label of labels) {
-    for (const end of ends) {
-      const instance = label + end;
-      if (!/^[a-zA-Z]/.test(label) || found.includes(instance)) continue;
-      const told = await asked(['replay'], withSchedule(alone, program, [instance]));
-      if (told.status === 0 || told.status === 5) found.push(instance);
-    }
+// The same where that is not told: those of a run, up to the first that comes again.
+async function namesOfRun(alone, program) {
+  const told = await asked(['run', program, String(MOST_INSTANCES)], alone), names = [];
+  for (const line of told.text.split('\n').slice(2)) {
+    const found = /^(?:undefined )?\d+ (\w+(?:\[[-\d,]+\])?)( |$)/.exec(line)?.[1];
+    if (!found || names.includes(found)) break;
+    names.push(found);
   }
-  return found;
+  return told.status === 0 || told.status === UNDEFINED ? { names } : { names, fault: told };
 }
 
 // The values in the last state of a trace, as its line has them behind the statement.
@@ -49,7 +35,7 @@ const kindTitles = { moves: 'changes the state', idle: 'changes nothing here', u
 // What an instance does after these choices: moves, idle or undefined.
 async function kindOf(alone, list, instance, now) {
   const told = await asked(['replay'], withSchedule(alone, walk.program, [...list, instance]));
-  if (told.status === 5) return 'undefined';
+  if (told.status === UNDEFINED) return 'undefined';
   return told.status === 0 && lastState(told.text) === now ? 'idle' : 'moves';
 }
 
@@ -77,7 +63,9 @@ async function beginWalk(list = [], at = 0) {
   if (turn !== walk.turn) return;
   if (fault || !names.length) {
     clear();
-    const told = fault ?? { fault: 'There is no program to step through.' };
+    // (places in the text without proofs are none of this document)
+    const own = fault && await asked(['check'], source);
+    const told = own?.status === 2 ? own : fault ?? { fault: 'There is no program to step through.' };
     show(['step'], source, told, await besides(['step'], source, told));
     return;
   }
@@ -90,7 +78,7 @@ async function showWalk(takesFocus = false) {
   const turn = ++walk.turn, { source, program, names } = walk, alone = programsAlone(source);
   const list = walk.list.slice(0, walk.at), composed = withSchedule(source, program, list);
   const trace = await asked(['replay'], withSchedule(alone, program, list));
-  const ended = trace.status === 5, rows = [];
+  const ended = trace.status === UNDEFINED, rows = [];
   for (const it of ended ? [] : names) {
     rows.push([it, names.length > MOST_TRIED ? 'open' : await kindOf(alone, list, it, lastState(trace.text))]);
     if (turn !== walk.turn) return;
@@ -114,7 +102,7 @@ function tellWalk(trace, seen, place) {
   const to = broken && place;
   const line = to ? `, line ${to.line}` : '';
   if (broken) say(`${where}: ${broken.step} is broken${line}, at state ${broken.place}`, false);
-  else if (trace.status === 5) say(`${where}: this step is undefined`, false);
+  else if (trace.status === UNDEFINED) say(`${where}: this step is undefined`, false);
   else if (seen.status > 0) say(`${where}; the claims were not looked at: ${seen.text.split('\n')[0]}`, false);
   else say(`${where}: choose a statement`, true);
   showPlace(to || null);

@@ -72,6 +72,17 @@ function startedAt(source, program, values) {
   return made;
 }
 
+// The byte at which the label of an instance stands, or nothing.
+function labelByte(source, program, instance) {
+  const label = instance.split('[')[0];
+  for (const { from, tokens } of partsOf(source, program)) {
+    const assign = tokens.findIndex(it => it.word === 'assign');
+    const found = tokens.find((it, k) => k > assign && it.word === label && tokens[k + 1]?.word === ':');
+    if (found) return new TextEncoder().encode(source.slice(0, from + found.index)).length;
+  }
+  return undefined;
+}
+
 // What an instance changes in the state of these values: each slot with the value before and after. It is null where
 // the step is undefined there, and undefined where that is not told.
 async function changesOf(source, { program, instance, values }, ask) {

@@ -5,6 +5,7 @@ import os
 import subprocess
 import sys
 import tempfile
+import time
 
 PIECE = 1 << 16
 
@@ -65,9 +66,23 @@ class Browser:
         self.session = self.say("Target.attachToTarget", targetId=target, flatten=True)["sessionId"]
         for part in ("Page", "Runtime", "Network"):
             self.say(part + ".enable")
+        self.go(address)
+
+    def go(self, address):
+        """Goes to this address, and waits for it: the empty page before it is complete as well."""
         self.say("Page.navigate", url=address)
-        while self.value("document.readyState") != "complete":
-            pass
+        self.wait("document.readyState === 'complete' && location.href !== 'about:blank'"
+                  if address != "about:blank" else "document.readyState === 'complete'")
+
+    def wait(self, code, seconds=120):
+        """Waits until this expression of JavaScript is true; it may fail as long as a page is being loaded."""
+        until = time.monotonic() + seconds
+        while time.monotonic() < until:
+            told = self.say("Runtime.evaluate", expression="Boolean(%s)" % code, returnByValue=True)
+            if told["result"].get("value") is True:
+                return
+            time.sleep(0.02)
+        sys.exit("%s is not true after %d s" % (code[:200], seconds))
 
     def value(self, code):
         """The value of an expression of JavaScript; of a promise what it comes to."""

@@ -14,8 +14,8 @@ from exercises_read import exercises_of
 from lessons import Lessons, inline
 
 TOP = os.path.normpath(os.path.join(os.path.dirname(os.path.abspath(__file__)), "../.."))
-SCRIPTS = ["engine.js", "sections.js", "told.js", "places.js", "answers.js", "editor.js", "keep.js", "requests.js",
-           "pictures.js", "addresses.js", "lessons.js", "stepper.js", "search.js", "exercises.js", "page.js"]
+SCRIPTS = ["engine.js", "sections.js", "told.js", "places.js", "answers.js", "claims.js", "editor.js", "keep.js",
+           "requests.js", "pictures.js", "addresses.js", "lessons.js", "stepper.js", "search.js", "exercises.js", "page.js"]
 KEPT = re.compile(r'<script type="text/plain" id="module">([^<]*)</script>')
 
 
@@ -119,6 +119,18 @@ def data():
     }
 
 
+def page_script():
+    """The scripts of the page as one, in which no name is declared twice: the browser would run none of it."""
+    whole = "'use strict';\n" + "\n".join(text_of("playground/src/" + it) for it in SCRIPTS).rstrip("\n")
+    names = re.findall(r"^(?:async )?function (\w+)|^(?:const|let) (.*)$", whole, re.M)
+    found = [name for function, names_of in names for name in
+             ([function] if function else re.findall(r"(?:^|, )(\w+)(?= =|[,;]|$)", names_of))]
+    twice = sorted({name for name in found if found.count(name) > 1})
+    if twice:
+        sys.exit("build.py: declared twice in playground/src: %s" % ", ".join(twice))
+    return whole
+
+
 def script(text):
     """A text of JSON in a script element, which it must not end."""
     return re.sub(r"<(?=[/!])", r"\\u003c", text)
@@ -133,7 +145,7 @@ def main(module, out, commit, sources, program):
         "program-sources": program,
         "module": module_of(module),
         "data": script(json.dumps(data(), ensure_ascii=False)),
-        "playground.js": "'use strict';\n" + "\n".join(text_of("playground/src/" + it) for it in SCRIPTS).rstrip("\n"),
+        "playground.js": page_script(),
     }
     page = text_of("playground/src/index.html")
     page = re.sub(r"@(%s)@" % "|".join(map(re.escape, parts)), lambda mark: parts[mark.group(1)], page)

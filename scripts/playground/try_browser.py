@@ -64,8 +64,7 @@ class Try:
 
     def settled(self):
         """Waits until the page is there again."""
-        while not self.browser.value("document.readyState === 'complete' && typeof sourceOf === 'function'"):
-            time.sleep(0.05)
+        self.browser.wait("document.readyState === 'complete' && typeof sourceOf === 'function'")
 
     def compare(self, what, told, wanted):
         self.holds(what, told["answer"] == wanted, "%s\n%s" % (told["status"], told["answer"]))
