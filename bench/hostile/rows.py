@@ -49,6 +49,6 @@ ROWS = [
     Row(further.places_and_cases, 60, "watch"),
     Row(further.places_and_large_cases, 500, "watch"),
     Row(further.layers, 100, "check"),
-    Row(further.two_remainders, 1000, "prove 1000000"),
+    Row(further.two_remainders, 250000, "prove 1000000"),
     Row(further.long_schedule, 100000, "watch"),
 ]
