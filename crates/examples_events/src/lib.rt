@@ -1,5 +1,5 @@
-//! Documents that are judged as they are read, and with certificates that are held whole. Nothing stands on this crate,
-//! and all of it is tests.
+//! Documents that are judged as they are read, and with certificates that are held whole; and documents of rings.
+//! Nothing stands on this crate, and all of it is tests.
 #![tactic(auto)]
 
 #[cfg(test)]
@@ -8,6 +8,8 @@ mod certificates;
 mod judged;
 #[cfg(test)]
 mod refusal;
+#[cfg(test)]
+mod rings;
 #[cfg(test)]
 mod tests;
 #[cfg(test)]

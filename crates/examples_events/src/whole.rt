@@ -1,6 +1,5 @@
 //! What the calls answer that read a text whole.
 ghost use Rattle.std.specs.Prelude.{IfOk};
-ghost use Rattle.unity_parser.specs.Document.{IsDocument};
 ghost use Rattle.core_terms.specs.Conditions.{IsCoreDocument};
 ghost use Rattle.proof_plans.specs.Giving.{AreWhole};
 
@@ -13,23 +12,13 @@ use proof_script::check;
 use std::alloc::Global;
 use streamed_documents::core_of;
 use unity_base::{Held, Seq};
-use unity_lexer::lex;
-use unity_parser::parse;
-use unity_syntax::{Document, SyntaxFault};
+use unity_parser::read_document;
 
 /// A text that was read whole: its core form and its certificates.
 #[derive(Drop)]
 pub struct Whole {
     pub core: Held<CDocument>,
     pub certificates: Seq<Cert>,
-}
-
-/// The document that a text is.
-fn document_of(alloc: Global, bytes: &[u8]) -> Result<Document, SyntaxFault>
-    ensures { IfOk result (IsDocument bytes.now) }
-{
-    let tokens = lex(alloc, bytes)?;
-    parse(alloc, bytes, tokens.as_slice())
 }
 
 /// Reads a text whole.
@@ -41,7 +30,7 @@ pub fn read_whole(alloc: Global, bytes: &[u8]) -> Result<Whole, Refusal>
     if bytes.len() > GREATEST_SIZE {
         return Err(Refusal::TooLong);
     }
-    let document = document_of(alloc, bytes)?;
+    let document = read_document(alloc, bytes)?;
     let core = core_of(alloc, &document)?;
     let certificates = certificates_from(alloc, document)?;
     Ok(Whole { core, certificates })

@@ -6,4 +6,4 @@ pub returns-clause-document : goal.returns-clause-document
 returns-clause-document c =
     let few = c.if-bytes-gt-GREATEST_SIZE.false in
     core_meets c.args.bytes.now c.in_ok-document.document c.in_ok-core.core (omega (arith, few))
-    c.in_ok-document.ensures c.in_ok-core.ensures.named c.in_ok-core.ensures.expands c.in_ok-core.ensures.core
+    c.in_ok-document.ensures.document c.in_ok-core.ensures.named c.in_ok-core.ensures.expands c.in_ok-core.ensures.core
