@@ -99,6 +99,20 @@ class Browser:
         for kind in ("keyDown", "keyUp"):
             self.say("Input.dispatchKeyEvent", type=kind, key="Tab", code="Tab", windowsVirtualKeyCode=9)
 
+    def insert(self, text):
+        """Types this text where the caret is."""
+        self.say("Input.insertText", text=text)
+
+    def reload(self):
+        self.value("window.left = true")
+        self.say("Page.reload")
+        self.wait("!window.left && document.readyState === 'complete'")
+
+    def click(self, x, y):
+        """Presses the mouse at a place of the page."""
+        for kind in ("mousePressed", "mouseReleased"):
+            self.say("Input.dispatchMouseEvent", type=kind, x=x, y=y, button="left", clickCount=1)
+
     def resize(self, width, height):
         size = {"width": width, "height": height, "deviceScaleFactor": 1, "mobile": False}
         self.say("Emulation.setDeviceMetricsOverride", **size)
