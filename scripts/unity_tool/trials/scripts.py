@@ -97,6 +97,17 @@ def page_answers(room):
                                                          came.text.decode())
 
 
+def page_script(room):
+    """Node reads the script of the page, where node is there: a browser would run none of one with a fault."""
+    if shutil.which("node"):
+        script = re.search(r"(?s)\n<script>\n(.*?)</script>", read("playground", "unity.html").decode()).group(1)
+        file = os.path.join(room, "page.js")
+        with open(file, "w", encoding="utf-8") as out:
+            out.write(script)
+        came = ask(["node", "--check", file])
+        yield "the script of the page", faults(other_status(0, came), came.text.decode())
+
+
 def python_with(module):
     """A Python that has this module, or nothing."""
     for python in (sys.executable, "/usr/bin/python3"):
@@ -128,5 +139,6 @@ def cases():
     yield Case("the patterns of editors/tasks.json", lambda room: matchers(), 1)
     yield Case("the pattern of editors/matcher.json", lambda room: matched(), 1)
     yield single("the lines of scripts/check.mjs", node_answers, 10)
+    yield Case("the script of the page", page_script, 1)
     yield Case("the answers of the page's module", page_answers, 40)
     yield Case("the scripts themselves", lambda room: checkers(), 5)
