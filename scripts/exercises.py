@@ -3,7 +3,7 @@
 
 Each start must be no answer to its exercise, each solution must be one, and both must have the program and the claims
 that are given. A text that changes one of the given words must be told from them. Each protocol of docs/GALLERY.md, and each
-chapter of docs/TUTORIAL.md, must have one. PROGRAM answers the questions, by
+chapter of docs/TUTORIAL.md, must have one, and docs/TEACHING.md must name each. PROGRAM answers the questions, by
 default the built one, crates/unity/out/unity; NAME.. are the exercises to be tried, by default all.
 The last line is `N passed, M failed`, and the exit is 1 where something failed.
 """
@@ -28,13 +28,16 @@ def has_certificates(exercise):
 
 
 def missing(exercises):
-    """The protocols of the gallery, and the chapters of the tutorial, that have no exercise."""
+    """The protocols of the gallery and the chapters of the tutorial that have no exercise, and titles that no lecture has."""
     with open(os.path.join(TOP, "docs", "GALLERY.md"), encoding="utf-8") as page:
         protocols = re.findall(r"^\| .* \| \[(\w+)\]", page.read(), re.M)
     with open(os.path.join(TOP, "docs", "TUTORIAL.md"), encoding="utf-8") as page:
         chapters = re.findall(r"^## (\d+)\.", page.read(), re.M)
+    with open(os.path.join(TOP, "docs", "TEACHING.md"), encoding="utf-8") as page:
+        lectures = page.read()
     names, read = {it.name for it in exercises}, {str(it.chapter) for it in exercises}
-    return sorted(set(protocols) - names) + ["chapter " + it for it in chapters if it not in read]
+    untold = [it.title for it in exercises if '"%s"' % it.title not in lectures]
+    return sorted(set(protocols) - names) + ["chapter " + it for it in chapters if it not in read] + untold
 
 
 class Try:
@@ -112,7 +115,7 @@ def main():
         return 1
     tried, exercises = Try(given.unity), exercises_of(FOLDER)
     if not given.names and missing(exercises):
-        print("docs/GALLERY.md:1:1: no exercise of %s" % ", ".join(missing(exercises)))
+        print("docs/TEACHING.md:1:1: no exercise, or no lecture, of %s" % ", ".join(missing(exercises)))
         tried.failed += 1
     for it in exercises:
         if not given.names or it.name in given.names:

@@ -125,6 +125,6 @@ class Exercise:
 
 
 def exercises_of(folder):
-    """The exercises of a folder, by their chapters and then by their names."""
+    """The exercises of a folder, by their chapters, and of each chapter the shorter documents first."""
     found = [Exercise(file) for file in glob.glob(os.path.join(folder, "*.exercise"))]
-    return sorted(found, key=lambda it: (it.chapter, it.name))
+    return sorted(found, key=lambda it: (it.chapter, len(it.start), it.name))
