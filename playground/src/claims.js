@@ -39,7 +39,8 @@ function between(tokens, places) {
   return ends.map((to, k) => tokens.slice(k ? ends[k - 1] + 1 : 0, to));
 }
 
-// The same with numbers in place of names. A bound of a range, as i + 1, becomes one number: the language has no others.
+// The same with numbers in place of names. A bound of a range, as i + 1, becomes one number, since the language has
+// no sum of numbers there.
 function numbered(tokens, numbers) {
   const put = tokens.map(it => (numbers.has(it.word) ? { ...it, word: numbers.get(it.word) } : it)), found = [];
   for (let k = 0; k < put.length; k++) {
@@ -123,8 +124,8 @@ async function falseParts(source, program, values, tokens, ask) {
   return found;
 }
 
-// The parts of a claim that do not hold where it is refuted, each list with the words before it: at the values, or after
-// the statement has changed them. `step` is what `obligations` tells of it.
+// The parts of a claim that do not hold where it is refuted, each list with the words before it: at the values, or
+// after the statement has changed them. `step` is what `obligations` tells of it.
 async function brokenParts(source, { program, origin, instance, values, changes }, step, ask) {
   const own = new Set(partsOf(source, program).flatMap(it => [...declaredIn(it.tokens)]));
   const claim = claimOf(source, step, new Map(values.filter(([name]) => !own.has(name.split('[')[0]))));

@@ -9,7 +9,8 @@ async function instancesOf(source, program) {
   const alone = programsAlone(source), [name] = freshNames(alone);
   const told = await asked(['obligations'], `${alone}proof ${program}\n  ${name}: defined by text;\nend\n`);
   const [step] = told.status === 0 ? stepsIn(told.text) : [];
-  return step ? { names: step.obligations.map(it => it.origin.replace(/ is defined$/, '')) } : namesOfRun(alone, program);
+  if (!step) return namesOfRun(alone, program);
+  return { names: step.obligations.map(it => it.origin.replace(/ is defined$/, '')) };
 }
 
 // The same where that is not told: those of a run, up to the first that comes again.

@@ -137,7 +137,8 @@ class Firefox:
     def press(self, key, modifiers=0):
         held = [value for bit, value in MODIFIERS.items() if modifiers & bit]
         keys = held + [KEYS.get(key, key)]
-        steps = [{"type": "keyDown", "value": it} for it in keys] + [{"type": "keyUp", "value": it} for it in keys[::-1]]
+        steps = [{"type": "keyDown", "value": it} for it in keys]
+        steps += [{"type": "keyUp", "value": it} for it in reversed(keys)]
         self.actions({"type": "key", "id": "keys", "actions": steps})
 
     def insert(self, text):

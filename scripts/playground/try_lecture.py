@@ -1,7 +1,8 @@
 """Clicks through what a lecture does with the page, in the browser of try_browser.py, at two widths.
 
 Each function takes the Try of try_browser.py: a lock is broken by clicks and by keys, mended and proved; a run is
-found; texts are kept; certificates are folded; addresses have chosen buttons alone; pictures are saved; exercises are done.
+found; texts are kept; certificates are folded; addresses have chosen buttons alone; pictures are saved; exercises are
+done.
 """
 import json
 import time
@@ -16,6 +17,11 @@ MENDING = [
 ]
 PARTS = ("layout", "student", "stepping", "stepping_by_keys", "finding", "refuting", "proving", "marking", "embedding",
          "saving", "keeping", "exercises_pressed")
+# Whether the line of the caret is one of those that the field shows.
+IN_SIGHT = """(() => {
+  const high = lineOf(text.value, text.selectionStart).line * parseFloat(getComputedStyle(text).lineHeight);
+  return high > text.scrollTop && high < text.scrollTop + text.clientHeight;
+})()"""
 CHOICE = "get('choices').querySelector('[data-choice=\"%s\"]').click()"
 
 
@@ -90,7 +96,7 @@ def stepping_by_keys(tried):
 
 
 def press(tried, part, event=None):
-    """Presses the mouse on a part of the page, which must come into sight and lie under nothing; then awaits `event`."""
+    """Presses the mouse on a part of the page, which must come into sight and lie under nothing; awaits `event`."""
     x, y, free = tried.browser.value("""(() => {
       const it = %s;
       it.scrollIntoView({ block: 'center', inline: 'center' });
@@ -129,7 +135,8 @@ def student(tried):
     told = press(tried, "get('prove')", "answered")
     tried.holds("the mended lock is proved", told.startswith("prove 1000000: proved"), told)
     rows = tried.browser.value("[...get('proved').rows].map(it => [...it.cells].map(it => it.textContent).join(' '))")
-    wanted = ["step kind bound obligations", "Race.safe defined  6", "Race.held invariant  7", "Race.claims invariant  7"]
+    wanted = ["step kind bound obligations", "Race.safe defined  6", "Race.held invariant  7",
+              "Race.claims invariant  7"]
     tried.holds("its steps", rows == wanted, rows)
     told = press(tried, "get('watch')", "answered")
     tried.holds("its schedule breaks nothing", "no step of the proof is violated" in told, told)
@@ -157,7 +164,8 @@ def refuting(tried):
     tried.holds("what its statement changes", rows == wanted, rows)
     shown = "get('broken').hidden ? [] : [...get('broken').children].map(it => it.textContent)"
     parts = tried.browser.value(shown)
-    tried.holds("what does not hold", parts == ["after take[0] this does not hold:", "not (pc[0] = 2 and pc[1] = 2)"], parts)
+    wanted = ["after take[0] this does not hold:", "not (pc[0] = 2 and pc[1] = 2)"]
+    tried.holds("what does not hold", parts == wanted, parts)
     tried.browser.value("get('refuted').querySelector('button').click()")
     line = tried.browser.value("text.value.slice(0, text.selectionStart).split('\\n').length")
     tried.holds("the statement's line", line == 22, line)
@@ -169,7 +177,8 @@ def refuting(tried):
     tried.write(tried.text_of("causes/writer_priority.unity"))
     tried.ask("get('prove').click()")
     parts = tried.browser.value(shown)
-    tried.holds("both sides", len(parts) == 4 and "of the left side" in parts[0] and "of the right side" in parts[2], parts)
+    both = len(parts) == 4 and "of the left side" in parts[0] and "of the right side" in parts[2]
+    tried.holds("both sides", both, parts)
     tried.write(tried.text_of("count.unity"))
     tried.ask("get('check').click()")
     tried.holds("nothing of it after another answer", tried.browser.value(shown) == [])
@@ -340,11 +349,10 @@ def exercises_pressed(tried):
     for name in ("token_ring", "bound", "three_held"):
         tried.browser.value("get('exercise').value = '%s'; get('exercise').onchange()" % name)
         lines = tried.browser.value("[...gutter.querySelectorAll('b')].map(it => Number(it.textContent))")
-        yours = [k for k, line in enumerate(tried.browser.value("text.value").split("\n"), 1) if "yours" in line and k > 2]
+        told = enumerate(tried.browser.value("text.value").split("\n"), 1)
+        yours = [k for k, line in told if "yours" in line and k > 2]
         tried.holds("%s, its lines" % name, bool(lines) and set(yours) <= set(lines), (lines, yours))
-        inside = tried.browser.value("(() => { const at = lineOf(text.value, text.selectionStart).line, "
-                                     "high = parseFloat(getComputedStyle(text).lineHeight); "
-                                     "return at * high > text.scrollTop && at * high < text.scrollTop + text.clientHeight; })()")
+        inside = tried.browser.value(IN_SIGHT)
         tried.holds("%s, its hole is in sight" % name, inside)
         press(tried, "get('hint')")
         press(tried, "get('judge')", "judged")

@@ -38,9 +38,10 @@ function drawViolation(name, answer, trace) {
 // What does not hold after a refutation, as `why` says it. Behind a `=>` the page goes on to parts, and it leaves names
 // as they are: there both must say something.
 async function compareParts(name, document, why, refuted, step) {
-  const lists = [...why.matchAll(/(?:not hold(?: there)?|of the right side.*):\n((?:  .*\n)+)/g)].map(it => it[1].trimEnd());
-  const told = lists.flatMap(it => it.split('\n')), found = await brokenParts(document, refuted, step, ask);
-  const here = found.flatMap(([, some]) => some), sorted = some => some.map(it => it.replace(/\s/g, '')).sort().join('\n');
+  const lists = [...why.matchAll(/(?:not hold(?: there)?|of the right side.*):\n((?:  .*\n)+)/g)];
+  const told = lists.flatMap(it => it[1].trimEnd().split('\n')), found = await brokenParts(document, refuted, step, ask);
+  const here = found.flatMap(([, some]) => some);
+  const sorted = some => some.map(it => it.replace(/\s/g, '')).sort().join('\n');
   const loose = told.some(it => it.includes('=>')) || here.some(it => /^\w+$/.test(it));
   compare(`${name}, what does not hold`, loose ? `${here.length > 0}` : sorted(here), loose ? 'true' : sorted(told));
 }
