@@ -2,8 +2,8 @@
 """Tries the exercises of examples/exercises/: exercises.py [--unity PROGRAM] [NAME..]
 
 Each start must be no answer to its exercise, each solution must be one, and both must have the program and the claims
-that are given. A text that changes one of the given words must be told from them. Each protocol of docs/GALLERY.md and each
-chapter of docs/TUTORIAL.md must have one, and docs/TEACHING.md must name each. PROGRAM answers the questions, by
+that are given. A text that changes one of the given words must be told from them. Each protocol of docs/GALLERY.md and
+each chapter of docs/TUTORIAL.md must have one, and docs/TEACHING.md must name each. PROGRAM answers the questions, by
 default the built one, crates/unity/out/unity; NAME.. are the exercises to be tried, by default all.
 The last line is `N passed, M failed`, and the exit is 1 where something failed.
 """

@@ -85,7 +85,7 @@ function drawTask() {
   const line = element('p', '', { className: 'turn' }), verdict = element('p', '', { id: 'verdict' });
   const at = data.exercises.indexOf(exercise), next = data.exercises[at + 1];
   verdict.setAttribute('role', 'status');
-  const is = `exercise ${at + 1} of ${data.exercises.length}, ${done.length} done; read chapter ${chapter} before it`;
+  const is = `exercise ${at + 1} of ${data.exercises.length}; read chapter ${chapter} before it`;
   line.append(element('button', 'is it done?', { id: 'judge', onclick: judge }),
     element('button', 'a hint', { id: 'hint', onclick: () => showHint(told) }),
     element('button', 'begin anew', { id: 'anew', onclick: () => startAnew() }),

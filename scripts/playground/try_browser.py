@@ -27,6 +27,7 @@ TRAPPING = ("AGFzbQEAAAABEAJgAX4BfmAHfn5+fn5+fgADAwIAAQUDAQAgBx4DBm1lbW9yeQIABWJ
             "dHlfb25lAAEKCwIFAEKACAsDAAAL")
 PARTS = ("documents", "gallery", "lessons", "addresses", "stopping", "trap", "long", "keys", "screens", "lecture", "access",
          "names", "size", "sending", "opening", "peterson")
+MUTEX = "  mutex: invariant not (pc[0] = 3 and pc[1] = 3) by text using flags;"
 BOTH_INSIDE = "schedule Peterson :\n  ask[1], ask[0], give[0], enter[0], give[1], enter[1]\nend\n"
 WHEN = """new Promise(done => {
   document.addEventListener(%s, it => done({ time: it.detail, answer: whole, status: get('status').textContent,
@@ -324,7 +325,7 @@ class Try:
         taken = ("look[0]", "look[1]", "take[0]", "take[1]")
         steps = ["get('step').click()"] + [try_lecture.CHOICE % it for it in taken]
         # (the story of README.md: each process gives precedence to itself, and both come inside)
-        broken = text_of("causes/peterson.unity").partition("schedule")[0] + BOTH_INSIDE
+        broken = re.sub(r"  mine: .*", MUTEX, text_of("causes/peterson.unity").partition("schedule")[0]) + BOTH_INSIDE
         shots = [("check", "write(data.documents.count, 'count')", ["get('check').click()"]),
                  ("peterson", "write(%s, 'broken')" % json.dumps(broken), ["get('watch').click()"]),
                  ("refuted", race, ["get('prove').click()"]),

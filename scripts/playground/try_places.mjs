@@ -39,7 +39,8 @@ function drawViolation(name, answer, trace) {
 // as they are: there both must say something.
 async function compareParts(name, document, why, refuted, step) {
   const lists = [...why.matchAll(/(?:not hold(?: there)?|of the right side.*):\n((?:  .*\n)+)/g)];
-  const told = lists.flatMap(it => it[1].trimEnd().split('\n')), found = await brokenParts(document, refuted, step, ask);
+  const told = lists.flatMap(it => it[1].trimEnd().split('\n'));
+  const found = await brokenParts(document, refuted, step, ask);
   const here = found.flatMap(([, some]) => some);
   const sorted = some => some.map(it => it.replace(/\s/g, '')).sort().join('\n');
   const loose = told.some(it => it.includes('=>')) || here.some(it => /^\w+$/.test(it));
