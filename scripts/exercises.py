@@ -2,7 +2,8 @@
 """Tries the exercises of examples/exercises/: exercises.py [--unity PROGRAM] [NAME..]
 
 Each start must be no answer to its exercise, each solution must be one, and both must have the program and the claims
-that are given. A text that changes one of the given words must be told from them. PROGRAM answers the questions, by
+that are given. A text that changes one of the given words must be told from them. Each protocol of docs/GALLERY.md and
+each chapter of docs/TUTORIAL.md must have one, and docs/TEACHING.md must name each. PROGRAM answers the questions, by
 default the built one, crates/unity/out/unity; NAME.. are the exercises to be tried, by default all.
 The last line is `N passed, M failed`, and the exit is 1 where something failed.
 """
@@ -20,6 +21,23 @@ from exercises_read import exercises_of, sections_of, tokens_of  # noqa: E402
 FOLDER = os.path.join(TOP, "examples", "exercises")
 BUILT = os.path.join(TOP, "crates", "unity", "out", "unity")
 BUDGET, VIOLATED = "1000000", 10
+
+
+def has_certificates(exercise):
+    return any(kind == "certificates" for kind, _, _ in sections_of(tokens_of(exercise.start)))
+
+
+def missing(exercises):
+    """Protocols of the gallery and chapters of the tutorial that have no exercise, and titles that no lecture has."""
+    with open(os.path.join(TOP, "docs", "GALLERY.md"), encoding="utf-8") as page:
+        protocols = re.findall(r"^\| .* \| \[(\w+)\]", page.read(), re.M)
+    with open(os.path.join(TOP, "docs", "TUTORIAL.md"), encoding="utf-8") as page:
+        chapters = re.findall(r"^## (\d+)\.", page.read(), re.M)
+    with open(os.path.join(TOP, "docs", "TEACHING.md"), encoding="utf-8") as page:
+        lectures = page.read()
+    names, read = {it.name for it in exercises}, {str(it.chapter) for it in exercises}
+    untold = [it.title for it in exercises if '"%s"' % it.title not in lectures]
+    return sorted(set(protocols) - names) + ["chapter " + it for it in chapters if it not in read] + untold
 
 
 class Try:
@@ -49,12 +67,12 @@ class Try:
 
     def is_done(self, exercise, text):
         """Whether the text is an answer to the exercise, and what the program says of it."""
-        if exercise.changed_at(text) is not None:
+        if not exercise.is_given(text):
             return False, "other words than those that are given"
         if "violated" in exercise.goal:
             status, answer = self.ask(text, "watch")
             return status == VIOLATED and answer.startswith("violated %s place " % exercise.goal["violated"]), answer
-        given = any(kind == "certificates" for kind, _, _ in sections_of(exercise.start))
+        given = has_certificates(exercise)
         status, answer = self.accepted(text, given)
         line = exercise.goal["line"]
         return status == 0 and (not line or line in answer.splitlines()), answer
@@ -63,7 +81,7 @@ class Try:
         """Whether an answer finds the text right, or goes wrong in a hole."""
         bad = re.match(r"bad \d+ \w+ byte (\d+)$", answer)
         at = bad and len(it.start.encode()[:int(bad.group(1))].decode())
-        return not bad or any(begin <= at <= end for _, _, (begin, end) in it.pieces()[:-1])
+        return not bad or any(begin <= at <= end for _, _, (begin, end) in it.given[:-1])
 
     def exercise(self, it):
         self.holds(it, "the exercise has no three hints, or no solution for each hole",
@@ -71,22 +89,20 @@ class Try:
         done, answer = self.is_done(it, it.start)
         self.holds(it, "the start is done already:", not done, answer)
         self.holds(it, "the start does not read outside its holes:", self.reads(it, answer), answer)
-        self.holds(it, "the start is not as it is given", it.changed_at(it.start) is None)
+        self.holds(it, "the start is not as it is given", it.is_given(it.start))
         done, answer = self.is_done(it, it.solved())
         self.holds(it, "the solution is not done:", done, answer)
         self.changed(it)
 
     def changed(self, it):
         """Each given word is missed where it is taken away; a certificate or a schedule beside them is none of them."""
-        text, tokens, holes = it.solved(), tokens_of(it.solved()), sum(len(tokens_of(part)) for part in it.solution)
-        seen = 0
-        for word, place in tokens:
-            if it.changed_at(text[:place] + " " + text[place + len(word):]) is not None:
-                seen += 1
-        unseen = len(tokens) - holes - seen
+        text, holes = it.solved(), sum(len(tokens_of(part)) for part in it.solution)
+        words = [word for word, _ in tokens_of(text)]
+        seen = sum(not it.have_given(words[:k] + words[k + 1:]) for k in range(len(words)))
+        unseen = len(words) - holes - seen
         self.holds(it, "given words that may be taken away: %d" % unseen, unseen <= 0)
-        if not any(kind == "certificates" for kind, _, _ in sections_of(it.start)):
-            self.holds(it, "certificates count as a change", it.changed_at(text + "certificates 1: sum; end\n") is None)
+        if not has_certificates(it):
+            self.holds(it, "certificates count as a change", it.is_given(text + "certificates 1: sum; end\n"))
 
 
 def main():
@@ -97,8 +113,11 @@ def main():
     if not os.access(given.unity, os.X_OK):
         print("%s:1:1: there is no such program; scripts/build.sh builds it" % given.unity, file=sys.stderr)
         return 1
-    tried = Try(given.unity)
-    for it in exercises_of(FOLDER):
+    tried, exercises = Try(given.unity), exercises_of(FOLDER)
+    if not given.names and missing(exercises):
+        print("docs/TEACHING.md:1:1: no exercise, or no lecture, of %s" % ", ".join(missing(exercises)))
+        tried.failed += 1
+    for it in exercises:
         if not given.names or it.name in given.names:
             tried.exercise(it)
     print("%d passed, %d failed" % (tried.passed, tried.failed))

@@ -39,8 +39,20 @@ function between(tokens, places) {
   return ends.map((to, k) => tokens.slice(k ? ends[k - 1] + 1 : 0, to));
 }
 
-// The same with numbers in place of names.
-const numbered = (tokens, numbers) => tokens.map(it => (numbers.has(it.word) ? { ...it, word: numbers.get(it.word) } : it));
+// The same with numbers in place of names. A bound of a range, as i + 1, becomes one number, since the language has
+// no sum of numbers there.
+function numbered(tokens, numbers) {
+  const put = tokens.map(it => (numbers.has(it.word) ? { ...it, word: numbers.get(it.word) } : it)), found = [];
+  for (let k = 0; k < put.length; k++) {
+    const [before, one, sign, other, after] = put.slice(Math.max(0, k - 1), k + 4).map(it => it.word);
+    const isBound = k > 0 && [':', '..'].includes(before) && ['..', '::'].includes(after);
+    const isSum = isBound && /^\d+$/.test(one) && /^[+-]$/.test(sign) && /^\d+$/.test(other);
+    if (isSum) found.push({ ...put[k], word: String(Number(one) + Number(sign + other)) });
+    else found.push(put[k]);
+    if (isSum) k += 2;
+  }
+  return found;
+}
 
 // The tokens without brackets that stand around all of them.
 function unwrapped(tokens) {
@@ -87,12 +99,12 @@ function claimOf(source, { step, byte, kind }, numbers) {
   return { left, right };
 }
 
-// The place at which this formula is first false on these choices, from the values of a refutation, or nothing.
-async function falseAt(source, { program, values }, formula, choices, ask) {
+// Whether a formula is false at these values.
+async function isFalse(source, program, values, formula, ask) {
   const alone = startedAt(source, program, values), [name, safe] = freshNames(alone);
   const proof = `proof ${program}\n  ${safe}: defined by text;\n  ${name}: invariant ${formula} by text;\nend\n`;
-  const told = await ask(['watch'], withSchedule(alone + proof, program, choices)), broken = brokenBy(told.text);
-  return broken?.step.endsWith(`.${name}`) ? broken.place : null;
+  const told = await ask(['watch'], withSchedule(alone + proof, program, []));
+  return brokenBy(told.text)?.step === `${program}.${name}`;
 }
 
 // Two names that a text has not.
@@ -102,28 +114,27 @@ function freshNames(source) {
   return found;
 }
 
-// Those parts of a formula that are false behind these choices.
-async function falseParts(source, refuted, tokens, choices, ask) {
+// Those parts of a formula that are false at these values.
+async function falseParts(source, program, values, tokens, ask) {
   const found = [];
   for (const it of conjuncts(tokens).slice(0, MOST_PARTS)) {
     const inner = unwrapped(it), part = spelled(binders.includes(inner[0]?.word) ? it : inner);
-    if (await falseAt(source, refuted, part, choices, ask) === choices.length) found.push(part);
+    if (await isFalse(source, program, values, part, ask)) found.push(part);
   }
   return found;
 }
 
-// The parts of a claim that do not hold where it is refuted, each list with the words before it; `step` is what
-// `obligations` tells of it.
-async function brokenParts(source, refuted, step, ask) {
-  const { program, origin, instance, values } = refuted;
+// The parts of a claim that do not hold where it is refuted, each list with the words before it: at the values, or
+// after the statement has changed them. `step` is what `obligations` tells of it.
+async function brokenParts(source, { program, origin, instance, values, changes }, step, ask) {
   const own = new Set(partsOf(source, program).flatMap(it => [...declaredIn(it.tokens)]));
   const claim = claimOf(source, step, new Map(values.filter(([name]) => !own.has(name.split('[')[0]))));
-  const atStart = origin === 'start', helps = / helps$/.test(origin);
-  if (!claim || refuted.changes === null || !(atStart || / keeps it$/.test(origin) || instance)) return [];
-  const choices = atStart ? [] : [instance], after = atStart ? 'at this initial state' : `after ${instance}`;
-  const left = helps ? [] : await falseParts(source, refuted, claim.left, choices, ask);
-  const right = claim.right ? await falseParts(source, refuted, claim.right, choices, ask) : [];
-  const nor = left.length ? 'nor does this, of the right side:' : `${after} this of the right side does not hold:`;
-  return [[`${after} this${claim.right ? ' of the left side' : ''} does not hold:`, left], [nor, right]]
+  if (!claim || !(origin === 'start' || changes)) return [];
+  const where = changes ? `after ${instance}` : 'at this initial state';
+  const now = [...new Map([...values, ...(changes ?? []).map(([slot, , made]) => [slot, made])])];
+  const left = / helps$/.test(origin) ? [] : await falseParts(source, program, now, claim.left, ask);
+  const right = claim.right ? await falseParts(source, program, now, claim.right, ask) : [];
+  const nor = left.length ? 'nor does this, of the right side:' : `${where} this of the right side does not hold:`;
+  return [[`${where} this${claim.right ? ' of the left side' : ''} does not hold:`, left], [nor, right]]
     .filter(([, parts]) => parts.length);
 }

@@ -46,7 +46,8 @@ function repaint() {
   const end = atEnd ? '<b class="spot"> </b>' : '';
   const markedLine = it => `<mark>${it || (end ? '' : ' ')}${end}</mark>`;
   paint.innerHTML = lines.map((it, k) => (k + 1 === marked?.line ? markedLine(it) : it)).join('\n') + '\n';
-  gutter.textContent = lines.map((_, k) => k + 1).join('\n') + '\n';
+  const own = ownLines();
+  gutter.innerHTML = lines.map((_, k) => (own.has(k + 1) ? `<b>${k + 1}</b>` : k + 1)).join('\n') + '\n';
   follow();
 }
 

@@ -6,10 +6,15 @@ const doneOnes = () => stored('localStorage', 'done') ?? [];
 
 function fillExercises() {
   const done = doneOnes();
-  const options = data.exercises.map((it, k) => {
-    return new Option(`${done.includes(it.name) ? '✓ ' : ''}${k + 1}. ${it.title}`, it.name);
+  const groups = data.lessons.map(({ title }, chapter) => {
+    const group = element('optgroup', '', { label: title });
+    data.exercises.forEach((it, k) => {
+      const words = `${done.includes(it.name) ? '✓ ' : ''}${k + 1}. ${it.title}`;
+      if (it.chapter === chapter + 1) group.append(new Option(words, it.name));
+    });
+    return group;
   });
-  get('exercise').replaceChildren(new Option('none', ''), ...options);
+  get('exercise').replaceChildren(new Option(`none; ${done.length} of ${data.exercises.length} done`, ''), ...groups);
   get('exercise').value = exercise?.name ?? '';
 }
 
@@ -30,6 +35,38 @@ function showExercise(called) {
     edited = Boolean(draft);
   }
   showTask(called);
+  showHole();
+}
+
+// What stands in the holes of the exercise that is shown, in the present text: without blanks around it, and comments
+// behind it.
+function ownWords() {
+  const holes = exercise ? holesIn(exercise.start, exercise.holes, text.value) : [];
+  return holes.map(({ from, to }) => {
+    const inner = text.value.slice(from, to).replace(/\s*(#[^\n]*\s*)*$/, '');
+    const begin = from + inner.length - inner.trimStart().length;
+    return { from: begin, to: from + inner.length };
+  });
+}
+
+// The lines of these.
+function ownLines() {
+  const lines = new Set();
+  for (const { from, to } of ownWords()) {
+    for (let k = lineOf(text.value, from).line; k <= lineOf(text.value, to).line; k++) lines.add(k);
+  }
+  return lines;
+}
+
+// Selects what stands in the first hole, and brings it into sight; whoever goes to the editor types over it.
+function showHole() {
+  const [hole] = ownWords();
+  if (!hole) return;
+  text.setSelectionRange(hole.from, hole.to);
+  lookAt(lineOf(text.value, hole.from));
+  const letter = parseFloat(getComputedStyle(text).fontSize) * 0.6, { index } = lineOf(text.value, hole.from);
+  text.scrollLeft = Math.max(0, (hole.to - index + 4) * letter - text.clientWidth);
+  follow();
 }
 
 // The exercise beside the editor, whose text stays as it is.
@@ -39,6 +76,7 @@ function showTask(called) {
   get('exercise').value = exercise?.name ?? '';
   if (exercise) drawTask();
   showAside(Boolean(exercise));
+  repaint();
 }
 
 function drawTask() {
@@ -47,7 +85,7 @@ function drawTask() {
   const line = element('p', '', { className: 'turn' }), verdict = element('p', '', { id: 'verdict' });
   const at = data.exercises.indexOf(exercise), next = data.exercises[at + 1];
   verdict.setAttribute('role', 'status');
-  const is = `exercise ${at + 1} of ${data.exercises.length}, ${done.length} done; read chapter ${chapter} before it`;
+  const is = `exercise ${at + 1} of ${data.exercises.length}; read chapter ${chapter} before it`;
   line.append(element('button', 'is it done?', { id: 'judge', onclick: judge }),
     element('button', 'a hint', { id: 'hint', onclick: () => showHint(told) }),
     element('button', 'begin anew', { id: 'anew', onclick: () => startAnew() }),
@@ -70,6 +108,7 @@ function showHint(told) {
 function startAnew() {
   write(exercise.start, exercise.name);
   store('localStorage', `draft.${exercise.name}`, null);
+  showHole();
   text.focus();
 }
 
@@ -80,7 +119,8 @@ function showSolution() {
 // Asks whether the exercise is done: first whether what was given is there, and then what the program says.
 async function judge() {
   if (waiting || searching) return;
-  const source = sourceOf(), at = changedAt(exercise.start, exercise.holes, source), { goal } = exercise;
+  const source = sourceOf(), chosen = exercise, { goal, name: called } = chosen;
+  const at = changedAt(chosen.start, chosen.holes, source);
   let done = false, words = '';
   if (at >= 0) {
     const line = source.slice(0, at).split('\n').length;
@@ -90,9 +130,12 @@ async function judge() {
   } else {
     ({ done, words } = goal.violated ? await judgeRun(goal.violated) : await judgeProof(source, goal));
   }
-  if (done) keepDone();
-  get('verdict').className = done ? 'good' : 'bad';
-  get('verdict').textContent = words;
+  if (done) keepDone(called, source);
+  // (meanwhile another exercise may have been chosen)
+  if (exercise === chosen) {
+    get('verdict').className = done ? 'good' : 'bad';
+    get('verdict').textContent = words;
+  }
   document.dispatchEvent(new Event('judged'));
 }
 
@@ -114,9 +157,9 @@ async function judgeProof(source, { line }) {
   return { done: true, words: 'Done: what is claimed is proved.' };
 }
 
-function keepDone() {
+function keepDone(called, source) {
   const done = doneOnes();
-  if (!done.includes(exercise.name)) store('localStorage', 'done', [...done, exercise.name]);
-  store('localStorage', `draft.${exercise.name}`, sourceOf());
+  if (!done.includes(called)) store('localStorage', 'done', [...done, called]);
+  store('localStorage', `draft.${called}`, source);
   fillExercises();
 }

@@ -22,6 +22,7 @@ function fillGallery() {
 function showAside(shown) {
   const box = get('lesson');
   document.body.classList.toggle('lesson', shown);
+  document.body.classList.toggle('task', shown && Boolean(exercise));
   box.hidden = !shown;
   if (!shown) return;
   box.scrollTop = 0;

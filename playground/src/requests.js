@@ -82,7 +82,8 @@ async function besides(words, source, { status, text = '' }) {
   const steps = lists || placeWords.test(text) ? await stepsOf(source, asked) : undefined;
   const place = await placeOf(source, text, asked, steps), refuted = refutationOf(text, steps);
   if (refuted?.instance) refuted.changes = await changesOf(source, refuted, asked);
-  if (refuted) refuted.broken = await brokenParts(source, refuted, stepNamed(steps, refuted.program, refuted.step), asked);
+  const step = refuted && stepNamed(steps, refuted.program, refuted.step);
+  if (refuted) refuted.broken = await brokenParts(source, refuted, step, asked);
   return { trace, steps: lists ? steps : null, place, refuted };
 }
 
@@ -151,7 +152,8 @@ function showSteps(steps) {
     const go = () => goTo(lineOf(source, placeOfByte(source, byte).index));
     named.append(element('button', `${program}.${step}`, { onclick: go }));
     const rounds = bound && `${bound} ${bound === '1' ? 'round' : 'rounds'}`;
-    row.append(named, element('td', kind), element('td', rounds), element('td', own.length || '', { className: 'count' }));
+    const count = element('td', own.length || '', { className: 'count' });
+    row.append(named, element('td', kind), element('td', rounds), count);
     return row;
   });
   const obligations = steps.reduce((sum, it) => sum + it.obligations.length, 0);

@@ -116,6 +116,21 @@ function compared(start, source) {
   return without(source, ...['schedule', 'certificates'].filter(it => !has.has(it)));
 }
 
+// Where the holes are in a text that is as it was given up to them: from the end of the word before one up to the word
+// behind it.
+function holesIn(start, holes, source) {
+  const tokens = tokensOf(source), found = [];
+  let at = 0;
+  for (const { words, kind } of piecesOf(start, holes)) {
+    if (!words.every((word, k) => tokens[at + k]?.word === word)) return found;
+    at += words.length;
+    const from = tokens[at - 1].index + tokens[at - 1].word.length;
+    while (kind && at < tokens.length && !holeEnds[kind].includes(tokens[at].word)) at++;
+    if (kind) found.push({ from, to: tokens[at]?.index ?? source.length });
+  }
+  return found;
+}
+
 // The index of the first token outside the holes that is not as it was given, or -1.
 function changedAt(start, holes, source) {
   const kept = compared(start, source), tokens = tokensOf(kept);

@@ -9,7 +9,8 @@ async function instancesOf(source, program) {
   const alone = programsAlone(source), [name] = freshNames(alone);
   const told = await asked(['obligations'], `${alone}proof ${program}\n  ${name}: defined by text;\nend\n`);
   const [step] = told.status === 0 ? stepsIn(told.text) : [];
-  return step ? { names: step.obligations.map(it => it.origin.replace(/ is defined$/, '')) } : namesOfRun(alone, program);
+  if (!step) return namesOfRun(alone, program);
+  return { names: step.obligations.map(it => it.origin.replace(/ is defined$/, '')) };
 }
 
 // The same where that is not told: those of a run, up to the first that comes again.
@@ -100,8 +101,8 @@ function tellWalk(trace, seen, place) {
   const broken = seen.status === VIOLATED && brokenBy(seen.text), where = `state ${walk.at}`;
   showText(broken ? withTrace(seen.text, trace.text) : trace.text, broken ? VIOLATED : trace.status);
   const to = broken && place;
-  const line = to ? `, line ${to.line}` : '';
-  if (broken) say(`${where}: ${broken.step} is broken${line}, at state ${broken.place}`, false);
+  const line = to ? `, line ${to.line}` : '', since = broken?.place < walk.at ? `, since state ${broken.place}` : '';
+  if (broken) say(`${where}: ${broken.step} is broken${line}${since}`, false);
   else if (trace.status === UNDEFINED) say(`${where}: this step is undefined`, false);
   else if (seen.status > 0) say(`${where}; the claims were not looked at: ${seen.text.split('\n')[0]}`, false);
   else say(`${where}: choose a statement`, true);

@@ -99,6 +99,20 @@ class Browser:
         for kind in ("keyDown", "keyUp"):
             self.say("Input.dispatchKeyEvent", type=kind, key="Tab", code="Tab", windowsVirtualKeyCode=9)
 
+    def insert(self, text):
+        """Types this text where the caret is."""
+        self.say("Input.insertText", text=text)
+
+    def reload(self):
+        self.value("window.goesAway = true")
+        self.say("Page.reload")
+        self.wait("!window.goesAway && document.readyState === 'complete'")
+
+    def click(self, x, y):
+        """Presses the mouse at a place of the page."""
+        for kind in ("mousePressed", "mouseReleased"):
+            self.say("Input.dispatchMouseEvent", type=kind, x=x, y=y, button="left", clickCount=1)
+
     def resize(self, width, height):
         size = {"width": width, "height": height, "deviceScaleFactor": 1, "mobile": False}
         self.say("Emulation.setDeviceMetricsOverride", **size)
@@ -106,6 +120,23 @@ class Browser:
     def picture(self, file):
         with open(file, "wb") as out:
             out.write(base64.b64decode(self.say("Page.captureScreenshot")["data"]))
+
+    def processor(self):
+        """The seconds of processor that all processes of the browser have taken."""
+        parents, times = {}, {}
+        for name in filter(str.isdigit, os.listdir("/proc")):
+            try:
+                with open("/proc/%s/stat" % name, encoding="utf-8", errors="replace") as file:
+                    words = file.read().rpartition(")")[2].split()
+            except OSError:
+                continue
+            parents[int(name)], times[int(name)] = int(words[1]), int(words[11]) + int(words[12])
+        below = {self.process.pid}
+        while True:
+            more = {it for it, parent in parents.items() if parent in below} - below
+            if not more:
+                return sum(times.get(it, 0) for it in below) / os.sysconf("SC_CLK_TCK")
+            below |= more
 
     def requests(self):
         """The addresses that were asked for, in all tabs so far."""

@@ -15,7 +15,8 @@ from lessons import Lessons, inline
 
 TOP = os.path.normpath(os.path.join(os.path.dirname(os.path.abspath(__file__)), "../.."))
 SCRIPTS = ["engine.js", "sections.js", "told.js", "places.js", "answers.js", "claims.js", "editor.js", "keep.js",
-           "requests.js", "pictures.js", "addresses.js", "lessons.js", "stepper.js", "search.js", "exercises.js", "page.js"]
+           "requests.js", "pictures.js", "addresses.js", "lessons.js", "stepper.js", "search.js", "exercises.js",
+           "page.js"]
 KEPT = re.compile(r'<script type="text/plain" id="module">([^<]*)</script>')
 
 

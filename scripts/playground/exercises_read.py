@@ -35,16 +35,16 @@ def tokens_of(text):
     return [(it.group(0), it.start()) for it in TOKEN.finditer(text) if not it.group(0).startswith("#")]
 
 
-def sections_of(text):
-    """The kind of each section, and where it begins and ends."""
+def sections_of(tokens):
+    """The kind of each section among these tokens, its first token, and the first behind it."""
     found, kind, begin = [], None, 0
-    for word, place in tokens_of(text):
+    for k, (word, _) in enumerate(tokens):
         if kind is None and word in SECTIONS:
-            kind, begin = word, place
+            kind, begin = word, k
         elif kind and word == "end":
-            found.append((kind, begin, place + len(word)))
+            found.append((kind, begin, k + 1))
             kind = None
-    return found + ([(kind, begin, len(text))] if kind else [])
+    return found + ([(kind, begin, len(tokens))] if kind else [])
 
 
 def place_of(tokens, words, begin):
@@ -71,6 +71,7 @@ class Exercise:
         self.holes = [re.match(r"(\w+) after (.*)$", hole).groups() for hole in all_of("hole")]
         self.solution, self.hints = all_of("solution"), all_of("hint")
         self.task = [" ".join(part.split()) for part in body.strip().split("\n\n")]
+        self.given = self.pieces()
 
     def pieces(self):
         """The given words between the holes, each with the kind of the hole behind it and the place of that hole."""
@@ -93,35 +94,37 @@ class Exercise:
     def solved(self):
         """The document with its solution in the holes."""
         text, at = "", 0
-        for (_, _, (begin, end)), words in zip(self.pieces()[:-1], self.solution):
+        for (_, _, (begin, end)), words in zip(self.given[:-1], self.solution):
             blanks = re.search(r"\s*$", self.start[begin:end]).group(0)
             text += self.start[at:begin] + " " + words + blanks
             at = end
         return text + self.start[at:]
 
-    def compared(self, text):
-        """The text without the sections that it may have beyond the start: a schedule and certificates."""
-        has = {kind for kind, _, _ in sections_of(self.start)}
-        for kind, begin, end in reversed(sections_of(text)):
+    def compared(self, tokens):
+        """The tokens without those of sections that a text may have beyond the start: a schedule and certificates."""
+        has = {kind for kind, _, _ in sections_of(tokens_of(self.start))}
+        for kind, begin, end in reversed(sections_of(tokens)):
             if kind in ("schedule", "certificates") and kind not in has:
-                text = text[:begin] + text[end:]
-        return text
+                tokens = tokens[:begin] + tokens[end:]
+        return tokens
 
-    def changed_at(self, text):
-        """Where the text is other than given outside its holes, or None."""
-        text = self.compared(text)
-        tokens, at = tokens_of(text), 0
-        for words, kind, _ in self.pieces():
-            for word in words:
-                if at == len(tokens) or tokens[at][0] != word:
-                    return tokens[at][1] if at < len(tokens) else len(text)
+    def is_given(self, text):
+        """Whether the text is as it is given outside its holes."""
+        return self.have_given([word for word, _ in self.compared(tokens_of(text))])
+
+    def have_given(self, words):
+        """Whether these words are the given ones, but for what stands in the holes."""
+        at = 0
+        for given, kind, _ in self.given:
+            if words[at:at + len(given)] != given:
+                return False
+            at += len(given)
+            while kind and at < len(words) and words[at] not in HOLE_ENDS[kind]:
                 at += 1
-            while kind and at < len(tokens) and tokens[at][0] not in HOLE_ENDS[kind]:
-                at += 1
-        return tokens[at][1] if at < len(tokens) else None
+        return at == len(words)
 
 
 def exercises_of(folder):
-    """The exercises of a folder, by their chapters and then by their names."""
+    """The exercises of a folder, by their chapters, and of each chapter the shorter documents first."""
     found = [Exercise(file) for file in glob.glob(os.path.join(folder, "*.exercise"))]
-    return sorted(found, key=lambda it: (it.chapter, it.name))
+    return sorted(found, key=lambda it: (it.chapter, len(it.start), it.name))

@@ -68,7 +68,17 @@ def labels(tried, what):
 
 
 def access(tried):
+    """At the width of a desktop and of a phone."""
     tried.browser.say("Accessibility.enable")
+    for size, (width, height) in {"desktop": (1280, 800), "phone": (390, 844)}.items():
+        tried.browser.resize(width, height)
+        tried.within = size + ","
+        access_at(tried)
+    tried.within = ""
+    tried.browser.resize(1280, 800)
+
+
+def access_at(tried):
     states = {
         "an answer": "write(data.documents.race, 'race'); get('replay').click()",
         "a refutation": "write(data.documents.race, 'race'); get('prove').click()",

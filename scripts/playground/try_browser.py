@@ -26,7 +26,9 @@ CONTROL, SHIFT = 2, 8
 TRAPPING = ("AGFzbQEAAAABEAJgAX4BfmAHfn5+fn5+fgADAwIAAQUDAQAgBx4DBm1lbW9yeQIABWJsb2NrAAAJdW5p"
             "dHlfb25lAAEKCwIFAEKACAsDAAAL")
 PARTS = ("documents", "gallery", "lessons", "addresses", "stopping", "trap", "long", "keys", "screens", "lecture", "access",
-         "names", "sending", "opening", "peterson")
+         "names", "size", "sending", "opening", "peterson")
+MUTEX = "  mutex: invariant not (pc[0] = 3 and pc[1] = 3) by text using flags;"
+BOTH_INSIDE = "schedule Peterson :\n  ask[1], ask[0], give[0], enter[0], give[1], enter[1]\nend\n"
 WHEN = """new Promise(done => {
   document.addEventListener(%s, it => done({ time: it.detail, answer: whole, status: get('status').textContent,
     place: get('place').hidden ? '' : get('place').textContent, picture: get('picture').innerHTML }), { once: true });
@@ -48,11 +50,11 @@ def names_in(folder):
 
 
 class Try:
-    def __init__(self, page):
+    def __init__(self, page, kind=Browser):
         self.address = "file://" + os.path.abspath(page)
         self.passed, self.failed, self.within = 0, 0, ""
         self.text_of = text_of
-        self.browser = Browser()
+        self.browser = kind()
         self.browser.open(self.address)
 
     def holds(self, what, condition, found=""):
@@ -171,7 +173,8 @@ class Try:
             linked = self.browser.value("location.href")
             self.holds(name + " is shown as an address", self.browser.value("get('copy').value") == linked)
             self.browser.open(linked)
-            time.sleep(0.5)
+            self.settled()
+            self.browser.wait("text.value.includes('Grüße')", 60)
             taken = self.browser.value("text.value")
             self.holds(name + " by an address", taken == text_of(name + ".unity") + "# Grüße\n", taken)
         told = self.ask("location.hash = '#d=***'", "followed")
@@ -208,7 +211,7 @@ class Try:
 
     def long(self):
         """A document and an answer of megabytes."""
-        begun = time.monotonic()
+        begun = self.browser.processor()
         line = "'# a line that says nothing at all\\n'"
         # (before the program, since certificates with all that follows them are folded)
         text = json.dumps(text_of("count.unity"))
@@ -218,7 +221,7 @@ class Try:
         told = self.ask("get('steps').value = 200000; get('run').click()")
         self.holds("an answer of 3 MB", len(told["answer"]) > 2000000 and not told["picture"], len(told["answer"]))
         self.holds("its beginning", self.browser.value("get('answer').textContent.length") == 200000)
-        self.holds("in seconds", time.monotonic() - begun < 20, time.monotonic() - begun)
+        self.holds("in seconds of processor", self.browser.processor() - begun < 20, self.browser.processor() - begun)
         self.write(text_of("count.unity"))
         self.holds("colours again", self.browser.value("paint.querySelectorAll('.keyword').length > 10"))
 
@@ -295,6 +298,11 @@ class Try:
         self.holds("nothing can", not asked, asked)
         server.shutdown()
 
+    def size(self):
+        """The file is one that can be mailed: under 3 MB."""
+        size = os.path.getsize(self.address.partition("://")[2])
+        self.holds("the file's size", size < 3000000, size)
+
     def opening(self):
         """The time from the opening of the page to its first answer."""
         self.browser.open("about:blank")
@@ -316,13 +324,16 @@ class Try:
         bare = "%s; write(bare(sourceOf()), 'race')" % race
         taken = ("look[0]", "look[1]", "take[0]", "take[1]")
         steps = ["get('step').click()"] + [try_lecture.CHOICE % it for it in taken]
+        # (the story of README.md: each process gives precedence to itself, and both come inside)
+        broken = re.sub(r"  mine: .*", MUTEX, text_of("causes/peterson.unity").partition("schedule")[0]) + BOTH_INSIDE
         shots = [("check", "write(data.documents.count, 'count')", ["get('check').click()"]),
+                 ("peterson", "write(%s, 'broken')" % json.dumps(broken), ["get('watch').click()"]),
                  ("refuted", race, ["get('prove').click()"]),
                  ("trace", race, ["get('replay').click()"]),
                  ("violated", race, ["get('watch').click()"]),
                  ("step", bare, steps),
                  ("proved", "write(data.documents.peterson, 'peterson')", ["get('prove').click()"]),
-                 ("exercise", "showExercise('race_mended'); showSolution()", ["get('judge').click()"])]
+                 ("exercise", "showExercise('race_mended'); showSolution()", [])]
         for name, begin, clicks in shots:
             self.shot(folder, name, (1280, 760), begin, clicks)
         self.shot(folder, "phone", (390, 844), bare, steps)
@@ -331,9 +342,12 @@ class Try:
         """A picture of the page after these clicks, each of which has its answer."""
         self.browser.open(self.address)
         self.browser.resize(*size)
-        self.browser.value("localStorage.clear(); chooseTheme('light'); %s; 0" % begin)
+        self.settled()
+        self.browser.value("localStorage.clear(); fillExercises(); chooseTheme('light'); %s; 0" % begin)
         for click in clicks:
             self.ask(click)
+        if name == "exercise":
+            try_lecture.judged(self, "get('judge').click()")
         time.sleep(0.5)
         self.browser.picture(os.path.join(folder, "playground-%s.png" % name))
 

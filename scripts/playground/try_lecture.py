@@ -1,7 +1,8 @@
 """Clicks through what a lecture does with the page, in the browser of try_browser.py, at two widths.
 
 Each function takes the Try of try_browser.py: a lock is broken by clicks and by keys, mended and proved; a run is
-found; texts are kept; certificates are folded; addresses have chosen buttons alone; pictures are saved; exercises are done.
+found; texts are kept; certificates are folded; addresses have chosen buttons alone; pictures are saved; exercises are
+done.
 """
 import json
 import time
@@ -14,6 +15,13 @@ MENDING = [
      "  held: invariant lock = (pc[0] = 2 or pc[1] = 2) and not (pc[0] = 2 and pc[1] = 2) by text;\n"),
     ("pc[1] = 2) by text;\nend", "pc[1] = 2) by text using held;\nend"),
 ]
+PARTS = ("layout", "student", "stepping", "stepping_by_keys", "finding", "refuting", "proving", "marking", "embedding",
+         "saving", "keeping", "exercises_pressed")
+# Whether the line of the caret is one of those that the field shows.
+IN_SIGHT = """(() => {
+  const high = lineOf(text.value, text.selectionStart).line * parseFloat(getComputedStyle(text).lineHeight);
+  return high > text.scrollTop && high < text.scrollTop + text.clientHeight;
+})()"""
 CHOICE = "get('choices').querySelector('[data-choice=\"%s\"]').click()"
 
 
@@ -32,7 +40,7 @@ def typed(tried, old, new):
     """Selects these letters in the editor, and types others."""
     tried.browser.value("{ const at = text.value.indexOf(%s); text.focus(); text.setSelectionRange(at, at + %d); }"
                         % (json.dumps(old), len(old)))
-    tried.browser.say("Input.insertText", text=new)
+    tried.browser.insert(new)
 
 
 def stepping(tried):
@@ -87,18 +95,93 @@ def stepping_by_keys(tried):
     tried.holds("w writes", tried.browser.value("text.value").endswith("schedule Race :\n  look[0]\nend\n"))
 
 
-def mending(tried):
-    """The lock is mended in the editor, and proved in the page alone."""
-    tried.write(tried.text_of("race.unity"))
+def press(tried, part, event=None):
+    """Presses the mouse on a part of the page, which must come into sight and lie under nothing; awaits `event`."""
+    x, y, free = tried.browser.value("""(() => {
+      const it = %s;
+      it.scrollIntoView({ block: 'center', inline: 'center' });
+      const { left, top, width, height } = it.getBoundingClientRect(), x = left + width / 2, y = top + height / 2;
+      return [x, y, it.contains(document.elementFromPoint(x, y))];
+    })()""" % part)
+    tried.holds("%s lies free" % part, free, (x, y))
+    if event:
+        tried.browser.value("window.next = new Promise(done => document.addEventListener('%s', () => done(0),"
+                            " { once: true })); 0" % event)
+    tried.browser.click(x, y)
+    if event:
+        tried.browser.value("window.next")
+    return status(tried)
+
+
+def student(tried):
+    """A student chooses the race, breaks its lock by the mouse, mends it by typing, and proves it; nothing is lost."""
+    if not tried.browser.value("get('menu').open"):
+        press(tried, "get('menu').querySelector('summary')")
+    press(tried, "get('gallery').querySelector('summary')")
+    press(tried, "[...document.querySelectorAll('#documents button')].find(it => it.textContent === 'race')")
+    tried.holds("the race is there", tried.browser.value("text.value") == tried.text_of("race.unity"))
+    press(tried, "get('step')", "answered")
+    for name in ("look[0]", "look[1]", "take[0]", "take[1]"):
+        told = press(tried, "get('choices').querySelector('[data-choice=\"%s\"]')" % name, "answered")
+    tried.holds("the lock is broken by the mouse", "Race.claims is broken, line 28" in told, told)
+    press(tried, "get('back')", "answered")
+    told = press(tried, "get('forward')", "answered")
+    tried.holds("and again", "Race.claims is broken" in told, told)
+    press(tried, "get('schedule')")
+    told = press(tried, "get('watch')", "answered")
+    tried.holds("by the schedule that was written", "violated" in told, told)
     for old, new in MENDING:
         typed(tried, old, new)
-    told = tried.ask("get('prove').click()")
-    tried.holds("the mended lock is proved", told["status"].startswith("prove 1000000: proved"), told["status"])
+    told = press(tried, "get('prove')", "answered")
+    tried.holds("the mended lock is proved", told.startswith("prove 1000000: proved"), told)
     rows = tried.browser.value("[...get('proved').rows].map(it => [...it.cells].map(it => it.textContent).join(' '))")
-    wanted = ["step kind bound", "Race.safe defined ", "Race.held invariant ", "Race.claims invariant "]
+    wanted = ["step kind bound obligations", "Race.safe defined  6", "Race.held invariant  7",
+              "Race.claims invariant  7"]
     tried.holds("its steps", rows == wanted, rows)
-    told = tried.ask("get('find').click()", "searched")
-    tried.holds("no run breaks it", "none of" in told["status"], told["status"])
+    told = press(tried, "get('watch')", "answered")
+    tried.holds("its schedule breaks nothing", "no step of the proof is violated" in told, told)
+    told = press(tried, "get('find')", "searched")
+    tried.holds("no run breaks it", "none of" in told, told)
+    mine = tried.browser.value("sourceOf()")
+    tried.browser.reload()
+    tried.settled()
+    tried.holds("it is there after a reload", tried.browser.value("sourceOf()") == mine and "held:" in mine)
+    example(tried, "swap")
+    if not tried.browser.value("get('menu').open"):
+        press(tried, "get('menu').querySelector('summary')")
+    press(tried, "get('before')")
+    tried.holds("and after an example", tried.browser.value("sourceOf()") == mine)
+
+
+def refuting(tried):
+    """After a refutation: the statement, what it changes, and which part of the claim does not hold then."""
+    tried.write(tried.text_of("race.unity"))
+    tried.ask("get('prove').click()")
+    caption = tried.browser.value("get('refuted').caption.textContent")
+    tried.holds("what is refuted", caption == "Race.claims, obligation 18: take[0] keeps it", caption)
+    rows = tried.browser.value("[...get('refuted').rows].map(it => [...it.cells].map(it => it.textContent).join(' '))")
+    wanted = ["variable value after take[0]", "pc[0] 1 2", "pc[1] 2 ", "lock false true"]
+    tried.holds("what its statement changes", rows == wanted, rows)
+    shown = "get('broken').hidden ? [] : [...get('broken').children].map(it => it.textContent)"
+    parts = tried.browser.value(shown)
+    wanted = ["after take[0] this does not hold:", "not (pc[0] = 2 and pc[1] = 2)"]
+    tried.holds("what does not hold", parts == wanted, parts)
+    tried.browser.value("get('refuted').querySelector('button').click()")
+    line = tried.browser.value("text.value.slice(0, text.selectionStart).split('\\n').length")
+    tried.holds("the statement's line", line == 22, line)
+    # of a claim of each process, the one of which it breaks; of a pair, both sides
+    tried.write(tried.text_of("causes/peterson.unity"))
+    tried.ask("get('prove').click()")
+    parts = tried.browser.value(shown)
+    tried.holds("the part of an `all`", parts[1:] == ["pc[1] = 3 => pc[1 - 1] < 2 or tie = 1"], parts)
+    tried.write(tried.text_of("causes/writer_priority.unity"))
+    tried.ask("get('prove').click()")
+    parts = tried.browser.value(shown)
+    both = len(parts) == 4 and "of the left side" in parts[0] and "of the right side" in parts[2]
+    tried.holds("both sides", both, parts)
+    tried.write(tried.text_of("count.unity"))
+    tried.ask("get('check').click()")
+    tried.holds("nothing of it after another answer", tried.browser.value(shown) == [])
 
 
 def finding(tried):
@@ -126,6 +209,8 @@ def proving(tried):
     accepted = tried.text_of("peterson.accepted").splitlines()
     rows = tried.browser.value("[...get('proved').rows].slice(1).map(it => it.textContent)")
     tried.holds("a row for each step", len(rows) == len(accepted) - 1, rows)
+    counts = tried.browser.value("[...get('proved').rows].slice(1).map(it => Number(it.cells[3].textContent))")
+    tried.holds("their obligations", sum(counts) == int(accepted[0].split(" ")[3]), counts)
     caption = tried.browser.value("get('proved').caption.textContent")
     numbers = accepted[0].split(" ")
     tried.holds("how many", caption == "%s steps are proved, by %s obligations" % (numbers[1], numbers[3]), caption)
@@ -160,10 +245,8 @@ def keeping(tried):
     mine = "unity 1\n# mine\n"
     tried.write(tried.text_of("count.unity"))
     tried.browser.value("text.focus(); text.select()")
-    tried.browser.say("Input.insertText", text=mine)
-    time.sleep(0.5)
-    tried.browser.say("Page.reload")
-    time.sleep(0.5)
+    tried.browser.insert(mine)
+    tried.browser.reload()
     tried.settled()
     tried.holds("a reload", tried.browser.value("text.value") == mine, tried.browser.value("text.value"))
     example(tried, "swap")
@@ -252,8 +335,7 @@ def exercises(tried):
         tried.browser.value("get('hint').click()")
     tried.holds("three hints", tried.browser.value("[...get('lesson').querySelectorAll('p')].filter(it => "
                                                    "it.textContent.startsWith('Hint ')).length") == 3)
-    tried.browser.say("Page.reload")
-    time.sleep(0.5)
+    tried.browser.reload()
     tried.settled()
     marks = tried.browser.value("[...get('exercise').options].filter(it => it.textContent.startsWith('✓')).length")
     tried.holds("what is done is kept", marks == len(names), marks)
@@ -261,18 +343,45 @@ def exercises(tried):
     tried.browser.value("localStorage.clear(); leaveExercise()")
 
 
+def exercises_pressed(tried):
+    """One exercise of each goal by the mouse: chosen, its holes marked, a hint, the solution, and it is done."""
+    tried.browser.value("localStorage.clear(); fillExercises()")
+    for name in ("token_ring", "bound", "three_held"):
+        tried.browser.value("get('exercise').value = '%s'; get('exercise').onchange()" % name)
+        lines = tried.browser.value("[...gutter.querySelectorAll('b')].map(it => Number(it.textContent))")
+        told = enumerate(tried.browser.value("text.value").split("\n"), 1)
+        yours = [k for k, line in told if "yours" in line and k > 2]
+        tried.holds("%s, its lines" % name, bool(lines) and set(yours) <= set(lines), (lines, yours))
+        inside = tried.browser.value(IN_SIGHT)
+        tried.holds("%s, its hole is in sight" % name, inside)
+        press(tried, "get('hint')")
+        press(tried, "get('judge')", "judged")
+        tried.holds("%s, not yet" % name, tried.browser.value("get('verdict').className") == "bad")
+        press(tried, "get('solution')")
+        press(tried, "get('judge')", "judged")
+        tried.holds("%s, done" % name, tried.browser.value("get('verdict').className") == "good")
+    # a verdict that comes late is that of the exercise that was asked about
+    tried.browser.value("showExercise('peterson'); showSolution(); 0")
+    judged(tried, "get('judge').click(); showExercise('race')")
+    done = tried.browser.value("doneOnes()")
+    tried.holds("a late verdict", "peterson" in done and "race" not in done, done)
+    tried.holds("is not told of another", tried.browser.value("get('verdict').textContent") == "")
+    tried.browser.value("leaveExercise(); localStorage.clear(); fillExercises()")
+
+
 def part_at(tried, size, part):
     """One of these functions at one width."""
     tried.within = "%s, %s:" % (size, part)
     tried.browser.resize(*SIZES[size])
+    # (the page has been told of its new width once it is drawn)
+    tried.browser.value("new Promise(done => requestAnimationFrame(() => requestAnimationFrame(() => done(0))))")
     globals()[part](tried)
     tried.within = ""
 
 
 def lecture(tried):
-    """Everything at both widths; the exercises, which look the same at both, at one."""
+    """Everything at both widths; all exercises, of which some are pressed at both, at one."""
     for size in SIZES:
-        for part in ("layout", "stepping", "stepping_by_keys", "mending", "finding", "proving", "marking", "embedding",
-                     "saving", "keeping"):
+        for part in PARTS:
             part_at(tried, size, part)
     part_at(tried, "desktop", "exercises")

@@ -3,9 +3,9 @@ import { readFileSync, readdirSync, existsSync } from 'node:fs';
 import { execFileSync, spawnSync } from 'node:child_process';
 
 const top = new URL('../..', import.meta.url).pathname, read = file => readFileSync(file, 'utf8');
-const codes = ['sections', 'told', 'places'].map(it => read(`${top}/playground/src/${it}.js`));
-const parts = '{ placeOf, traceSvg, withTrace, isTrace, stepsOf, refutationOf, changesOf }';
-const { placeOf, traceSvg, withTrace, isTrace, stepsOf, refutationOf, changesOf } =
+const codes = ['sections', 'told', 'places', 'answers', 'claims'].map(it => read(`${top}/playground/src/${it}.js`));
+const parts = '{ placeOf, traceSvg, withTrace, isTrace, stepsOf, refutationOf, changesOf, brokenParts, stepNamed }';
+const { placeOf, traceSvg, withTrace, isTrace, stepsOf, refutationOf, changesOf, brokenParts, stepNamed } =
   new Function(`'use strict'; ${codes.join('')} return ${parts};`)();
 const shell = (script, ...words) => execFileSync('bash', ['-c', script, 'bash', ...words]).toString();
 
@@ -35,12 +35,25 @@ function drawViolation(name, answer, trace) {
   compare(`${name}, all of the trace`, traceSvg(answer + trace), draw(answer + trace));
 }
 
+// What does not hold after a refutation, as `why` says it. Behind a `=>` the page goes on to parts, and it leaves names
+// as they are: there both must say something.
+async function compareParts(name, document, why, refuted, step) {
+  const lists = [...why.matchAll(/(?:not hold(?: there)?|of the right side.*):\n((?:  .*\n)+)/g)];
+  const told = lists.flatMap(it => it[1].trimEnd().split('\n'));
+  const found = await brokenParts(document, refuted, step, ask);
+  const here = found.flatMap(([, some]) => some);
+  const sorted = some => some.map(it => it.replace(/\s/g, '')).sort().join('\n');
+  const loose = told.some(it => it.includes('=>')) || here.some(it => /^\w+$/.test(it));
+  compare(`${name}, what does not hold`, loose ? `${here.length > 0}` : sorted(here), loose ? 'true' : sorted(told));
+}
+
 // What a refutation's statement changes, as `why` says it.
 async function compareChanges(name, document, why) {
-  const refuted = refutationOf(why, await stepsOf(document, ask)), { instance } = refuted;
+  const steps = await stepsOf(document, ask), refuted = refutationOf(why, steps), { instance } = refuted;
   const changes = instance && await changesOf(document, refuted, ask);
   const each = changes?.map(([slot, old, now]) => `${slot} from ${old} to ${now}`).join(', ') || 'nothing';
   const here = changes === null ? `${instance} is undefined here:` : changes ? `${instance} changes ${each}` : '';
+  await compareParts(name, document, why, { ...refuted, changes }, stepNamed(steps, refuted.program, refuted.step));
   compare(`${name}, what it changes`, here, /^\S+ (changes|is undefined) .*$/m.exec(why)?.[0] ?? '');
 }
 
@@ -57,7 +70,7 @@ for (const folder of ['examples', 'examples/mistakes', 'examples/causes', 'tests
     } else if (/\.(expected|refuted|watch)$/.test(name) && existsSync(document)) {
       const told = shell('python3 -B "$1/scripts/unity-tool" place F "$3" < "$2" 2>&1', top, file, document);
       const place = await placeOf(read(document), read(file), ask);
-      compare(name, `${place?.line ?? ''}`, /^F:(\d+)/.exec(told)?.[1] ?? '');
+      compare(name, `${place?.line ?? ''}`, /^F:(\d+)/m.exec(told)?.[1] ?? '');
       const replay = file.replace(/\.watch$/, '.replay');
       if (replay !== file && /^violated /.test(read(file))) drawViolation(name, read(file), read(replay));
     }
