@@ -11,3 +11,4 @@ pub mod Watched
 pub mod Streamed
 pub mod Traced
 pub mod ExitLaws
+pub mod Refuted

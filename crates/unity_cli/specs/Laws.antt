@@ -1,11 +1,21 @@
 -- Laws of the answers, as statements.
-use Rattle.std.specs.Prelude.{◌≡◌, ◌≤◌, ℕ, List, Option, Some}
+use Rattle.std.specs.Prelude.{◌≡◌, ◌≤◌, ℕ, ℤ, true, List, Option, Some}
 use Rattle.unity_syntax.specs.declared.document.Document.{Document}
 use Rattle.unity_parser.specs.Document.{IsDocument}
+use Rattle.core_terms.specs.declared.documents.CDocument.{CDocument}
+use Rattle.fixed_correct.specs.from_expand_documents.Cores.{core_document}
+use Rattle.obligations.specs.declared.branches.Variable.{Variable}
+use Rattle.obligations.specs.declared.branches.Obligation.{Obligation}
+use Rattle.cli_texts.specs.from_proof_plans.Reaching.{reach_of, reached}
+use Rattle.proof_script.specs.Proving.{ComesAtNumber}
+use Rattle.solver_scripts.specs.Naming.{Naming}
+use Rattle.solver_scripts.specs.Terms.{Assignment}
+use Rattle.solver_scripts.specs.Laws.{values_of, meets, AreNamedApart, IsUnsat}
 use Rattle.cli_words.specs.Requests.{Request, prove, demo, request_of}
 use Rattle.soundness.specs.Layers.{LayersCarry}
 use Rattle.unity_cli.specs.declared.status.Status.{Status}
 use Rattle.unity_cli.specs.Answer.{Answer}
+use Rattle.unity_cli.specs.Answer.Prove.{IsRefuted}
 use Rattle.unity_cli.specs.Following.{FollowsTheRules}
 
 -- all but a search have no choice; that of a ring is one
@@ -40,3 +50,17 @@ LimitedHaveAnswer = (request : Option Request) → IsLimited request → (bytes 
 -- in a document whose proofs follow the rules layers carry
 abbrev pub FollowedCarry : Type 0
 FollowedCarry = (bytes : List ℕ) (d : Document) → FollowsTheRules bytes → IsDocument bytes d → LayersCarry d
+
+-- the obligation of this number has these variables. Whatever their symbols are, an assignment that gives them these
+-- values meets both asserts of its script; so `unsat` is wrong of it, where no two of them have one symbol
+pub record IsMetAt (d : CDocument) (number : ℕ) (variables : List Variable) (values : List ℤ) : Type 0 where
+  pub obligation : Obligation
+  pub comes : ComesAtNumber (reached (reach_of d)).obligations number obligation
+  pub same : variables ≡ obligation.variables
+  pub met : (name : Naming) (a : Assignment) → values_of name variables a ≡ values → meets name obligation a ≡ true
+  pub not_unsat : (name : Naming) → AreNamedApart name variables → IsUnsat name obligation → ⊥
+
+-- so it is with what `prove` refutes, and the values that it prints
+abbrev pub RefutedIsMet : Type 0
+RefutedIsMet = (bytes : List ℕ) (budget : ℕ) (text : List ℕ) (r : IsRefuted bytes budget text) →
+    IsMetAt (core_document r.finding.document) r.number r.variables r.values

@@ -43,7 +43,7 @@ exit status:
    9  memory was refused
   10  violated: a step of the proof is, on the schedule
 
-The manual is unity(1), or docs/REFERENCE.md; docs/TUTORIAL.md is a first lesson.
+The manual is unity(1) or docs/REFERENCE.md; docs/TUTORIAL.md is a first lesson.
 ";
 
 /// What `version` writes.

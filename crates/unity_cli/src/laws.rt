@@ -1,13 +1,13 @@
 // Laws of the answers. The functions do nothing: they state them.
 ghost use Rattle.solver_scripts.specs.Laws.{DivisionIsStandard, ScriptMeans, UnsatIsValid};
 ghost use Rattle.soundness.specs.Layers.{LayersProject};
-ghost use Rattle.unity_cli.specs.Laws.{OneAnswer, SomeAnswer, LimitedHaveAnswer, FollowedCarry};
+ghost use Rattle.unity_cli.specs.Laws.{OneAnswer, SomeAnswer, LimitedHaveAnswer, FollowedCarry, RefutedIsMet};
 
 use solver_scripts::script_laws;
 use soundness::projection_laws;
 
-/// Words and bytes have some status and text; and they have no other, but for words for a search, whose certificates
-/// may differ.
+/// Words and bytes have some status and text; and they have no other, but for `prove` and `demo`, which search: what is
+/// found may differ.
 pub fn one_answer()
     ensures one { OneAnswer }
     ensures some { SomeAnswer }
@@ -28,11 +28,13 @@ pub fn layers_project()
 
 /// An assignment meets both asserts of an obligation, as `obligations` writes them, exactly where it gives each variable
 /// a number in its range, and the obligation's form is false there. So a solver that says `unsat` of all says that all
-/// are valid, whoever it is. Quotients and remainders are those of the standard.
+/// are valid, whoever it is. Quotients and remainders are those of the standard. An obligation that `prove` refutes is
+/// met by the values that it prints.
 pub fn scripts_mean()
     ensures means { ScriptMeans }
     ensures unsat { UnsatIsValid }
     ensures division { DivisionIsStandard }
+    ensures refuted { RefutedIsMet }
 {
     script_laws();
 }

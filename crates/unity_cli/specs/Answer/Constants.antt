@@ -38,7 +38,7 @@ help_text =
     ++ codes "   9  memory was refused\n"
     ++ codes "  10  violated: a step of the proof is, on the schedule\n"
     ++ codes "\n"
-    ++ codes "The manual is unity(1), or docs/REFERENCE.md; docs/TUTORIAL.md is a first lesson.\n"
+    ++ codes "The manual is unity(1) or docs/REFERENCE.md; docs/TUTORIAL.md is a first lesson.\n"
 
 -- the version of the program, and those of the language that it reads
 unfoldable pub version_text : List ℕ
