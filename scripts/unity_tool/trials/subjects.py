@@ -2,7 +2,7 @@
 
 A subject of your own is a line here: its function takes nothing, and yields a `Case` for each test (cases.py).
 """
-from unity_tool.trials import (asked_rows, causes, editing, generated, installing, machines, mistakes, prefixes,
+from unity_tool.trials import (asked_rows, causes, editing, generated, installing, machines, mistakes, nesting, prefixes,
                                refusing, scripts, serving, serving_faults, sessions, solving, spinning, suffixes,
                                wrong_seconds)
 
@@ -14,6 +14,7 @@ SUBJECTS = [
     ("rows", asked_rows.cases),
     ("sessions", sessions.cases),
     ("generated", generated.cases),
+    ("nesting", nesting.cases),
     ("refusing", refusing.cases),
     ("scripts", scripts.cases),
     ("installing", installing.cases),
