@@ -6,8 +6,8 @@
 # The page is one file with the program in it, as WebAssembly. Each of its answers is compared with that of the native
 # program on all of examples/ (under node), its places and pictures with those of scripts/, and the page is driven in
 # Debian's chromium, without a window: it fails where anything left the page. What a lecture does with it is tried in
-# Debian's firefox-esr too. What can't be tried here, since `node`, a browser, `wasm-opt` or the built program is missing,
-# is said, and is a failure with --all alone.
+# Debian's firefox-esr too. What can't be tried here, since `node`, a browser, `wasm-opt` or the built program is
+# missing, is said, and is a failure with --all alone.
 # --check makes nothing, and fails where the page is not the one of the present sources. --try makes nothing either, and
 # tries the page that is there. --around puts the page together around the module of the page that is there, which takes
 # a second; it is refused where the sources of that module have changed. With --pictures the browser's pictures in

@@ -107,8 +107,8 @@ def dining(size):
     return "\n".join(lines + [
         "  next(m : 0..%d): eat[0] = 0 and way = m leadsto %s by weaken(eat[0] = 0 and way = m, %s, %s) using two;"
         % (most, goal, goal, tree),
-        "  hungry: eat[0] = 0 leadsto eat[0] = 1 by induct(m : 0..%d, way, eat[0] = 0, eat[0] = 1, from next[m]);\nend\n"
-        % most])
+        "  hungry: eat[0] = 0 leadsto eat[0] = 1 by induct(m : 0..%d, way, eat[0] = 0, eat[0] = 1, from next[m]);"
+        % most, "end\n"])
 
 
 def network(size):
@@ -118,7 +118,8 @@ def network(size):
     lines += ["  %sswap%d: x%d, x%d := x%d, x%d" % ("[] " if at else "", at, at, at + 1, at + 1, at)
               for at in range(size - 1)]
     apart = " and ".join("x%d /= x%d" % (at, other) for at in range(size) for other in range(at))
-    return "\n".join(lines + ["end\nproof Network\n  safe: defined by text;\n  apart: invariant %s by text;\nend\n" % apart])
+    lines += ["end\nproof Network\n  safe: defined by text;\n  apart: invariant %s by text;\nend\n" % apart]
+    return "\n".join(lines)
 
 
 def pigeons(size):

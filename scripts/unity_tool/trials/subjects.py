@@ -2,9 +2,9 @@
 
 A subject of your own is a line here: its function takes nothing, and yields a `Case` for each test (cases.py).
 """
-from unity_tool.trials import (asked_rows, causes, editing, generated, installing, machines, mistakes, nesting, prefixes,
-                               refusing, scripts, serving, serving_faults, sessions, solving, spinning, suffixes,
-                               wrong_seconds)
+from unity_tool.trials import (asked_rows, causes, editing, generated, installing, machines, mistakes, nesting,
+                               prefixes, refusing, scripts, serving, serving_faults, sessions, solving, spinning,
+                               suffixes, wrong_seconds)
 
 SUBJECTS = [
     ("documents", suffixes.beside_documents),
