@@ -112,12 +112,12 @@ fn product_of_two(a: i128, b: i64) -> i128
 }
 
 /// A factor times a term's own factor. `None` exactly where it is past 2^126.
-fn scaled(k: &i64, factor: &i128) -> Option<i128>
-    ensures value { MatchOption result (2 ^ 126 < unsigned_abs (k.now *ℤ factor.now)) (λ x. x ≡ k.now *ℤ factor.now) }
-    ensures size { IfSome result (λ x. unsigned_abs x ≡ unsigned_abs k.now * unsigned_abs factor.now) }
+fn scaled(k: &i64, factor: i128) -> Option<i128>
+    ensures value { MatchOption result (2 ^ 126 < unsigned_abs (k.now *ℤ factor)) (λ x. x ≡ k.now *ℤ factor) }
+    ensures size { IfSome result (λ x. unsigned_abs x ≡ unsigned_abs k.now * unsigned_abs factor) }
     ensures small { IfSome result (λ x. unsigned_abs x ≤ 2 ^ 126) }
 {
-    small_product(*k, *factor)
+    small_product(*k, factor)
 }
 
 /// The number at a place, and 0 where there is none.
@@ -152,40 +152,42 @@ fn add_factor(factors: &mut Seq<i128>, place: usize, by: &i128)
 }
 
 /// Adds a variable's multiple.
-fn add_variable(vs: &[Variable], param: bool, number: u32, factor: &i128, sum: &mut Line)
+#[inline(never)]
+fn add_variable(vs: &[Variable], param: bool, number: u32, factor: i128, sum: &mut Line)
     requires order { are_in_order vs.now ≡ true }
-    requires room { norm sum.old + unsigned_abs factor.now ≤ 2 ^ 126 }
-    ensures factors { sum.new.factors ≡ add_at sum.old.factors (place_of vs.now param number) factor.now }
+    requires room { norm sum.old + unsigned_abs factor ≤ 2 ^ 126 }
+    ensures factors { sum.new.factors ≡ add_at sum.old.factors (place_of vs.now param number) factor }
     ensures constant { sum.new.constant ≡ sum.old.constant }
 {
-    add_factor(&mut sum.factors, find(vs, param, number), factor);
+    add_factor(&mut sum.factors, find(vs, param, number), &factor);
 }
 
 /// Adds a multiple of a number.
-fn add_constant(c: &i64, factor: &i128, sum: &mut Line)
-    requires { norm sum.old + unsigned_abs factor.now * unsigned_abs c.now ≤ 2 ^ 126 }
+fn add_constant(c: &i64, factor: i128, sum: &mut Line)
+    requires { norm sum.old + unsigned_abs factor * unsigned_abs c.now ≤ 2 ^ 126 }
     ensures factors { sum.new.factors ≡ sum.old.factors }
-    ensures constant { sum.new.constant ≡ sum.old.constant +ℤ factor.now *ℤ c.now }
+    ensures constant { sum.new.constant ≡ sum.old.constant +ℤ factor *ℤ c.now }
 {
-    sum.constant = sum_of_two(sum.constant, product_of_two(*factor, *c));
+    sum.constant = sum_of_two(sum.constant, product_of_two(factor, *c));
 }
 
-fn opposite(z: &i128) -> i128
-    requires { unsigned_abs z.now ≤ 2 ^ 126 }
-    ensures value { result ≡ neg_ℤ z.now }
-    ensures size { unsigned_abs result ≡ unsigned_abs z.now }
+fn opposite(z: i128) -> i128
+    requires { unsigned_abs z ≤ 2 ^ 126 }
+    ensures value { result ≡ neg_ℤ z }
+    ensures size { unsigned_abs result ≡ unsigned_abs z }
 {
-    -*z
+    -z
 }
 
 /// Adds a multiple of a term's linear form to a sum. A term of load 0 has the linear form 0, however
-/// great its factor would be.
-fn add_term(vs: &[Variable], t: &CTerm, factor: &i128, sum: &mut Line)
+/// great its factor would be. The factor is passed as a value, so that signs as deep as a formula may be take no stack:
+/// nothing is left to do after the last call.
+fn add_term(vs: &[Variable], t: &CTerm, factor: i128, sum: &mut Line)
     requires order { are_in_order vs.now ≡ true }
     requires size { length sum.old.factors ≡ length vs.now }
-    requires factor { unsigned_abs factor.now ≤ 2 ^ 126 }
-    requires room { norm sum.old + unsigned_abs factor.now * (term_load t.now).own ≤ 2 ^ 126 }
-    ensures sum { sum.new ≡ line_plus factor.now sum.old (linear vs.now t.now) }
+    requires factor { unsigned_abs factor ≤ 2 ^ 126 }
+    requires room { norm sum.old + unsigned_abs factor * (term_load t.now).own ≤ 2 ^ 126 }
+    ensures sum { sum.new ≡ line_plus factor sum.old (linear vs.now t.now) }
     ensures size { length sum.new.factors ≡ length vs.now }
 {
     match t {
@@ -198,11 +200,11 @@ fn add_term(vs: &[Variable], t: &CTerm, factor: &i128, sum: &mut Line)
         }
         CTerm::Sub(a, b) => {
             add_term(vs, a.get(), factor, sum);
-            add_term(vs, b.get(), &opposite(factor), sum);
+            add_term(vs, b.get(), opposite(factor), sum);
         }
         CTerm::Scale(k, a) => {
             if let Some(product) = scaled(k, factor) {
-                add_term(vs, a.get(), &product, sum);
+                add_term(vs, a.get(), product, sum);
             }
         }
         CTerm::Div(..) => {}
@@ -235,7 +237,7 @@ pub fn line_of(alloc: Global, vs: &[Variable], t: &CTerm) -> Result<Line, AllocE
     ensures size { IfOk result (λ l. length l.factors ≡ length vs.now) }
 {
     let mut sum = zero_line(alloc, vs)?;
-    add_term(vs, t, &1, &mut sum);
+    add_term(vs, t, 1, &mut sum);
     Ok(sum)
 }
 
@@ -248,7 +250,7 @@ pub fn negative_of(alloc: Global, vs: &[Variable], t: &CTerm) -> Result<Line, Al
     ensures size { IfOk result (λ l. length l.factors ≡ length vs.now) }
 {
     let mut sum = zero_line(alloc, vs)?;
-    add_term(vs, t, &-1, &mut sum);
+    add_term(vs, t, -1, &mut sum);
     Ok(sum)
 }
 
