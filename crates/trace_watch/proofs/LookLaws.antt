@@ -20,7 +20,7 @@ use Rattle.trace_watch.specs.declared.step.Step.{Step}
 use Rattle.trace_watch.specs.Readings.{Reading, is_violated}
 use Rattle.trace_watch.specs.Cases.{WatchedStep, watched_one, watched_from, own_cases, total_cases}
 use Rattle.trace_watch.specs.Violations.{first_case, first_failing}
-use Rattle.trace_watch.specs.Waiting.{CaseStands, CasesStand}
+use Rattle.trace_watch.specs.Waiting.{CaseStands, CasesStand, CaseSaw}
 use Rattle.trace_watch.specs.Stepping.{StepFits, StepStands, watched_as}
 use Rattle.trace_watch.proofs.TryLaws.{next_position}
 
@@ -73,6 +73,31 @@ below_next n m h = elim (eqb_tells n m) [
     less zero (suc b) h d = omega arith
     less (suc a) zero h d = absurd (omega arith)
     less (suc a) (suc b) h d = let rest = less a b (omega arith) (λ e. d (ap suc e)) in omega (arith, rest)
+
+-- the items before a place, of which something holds with their numbers
+abbrev pub HoldsBelow : {X : Type 0} → (ℕ → X → Type 0) → List X → ℕ → Type 0
+HoldsBelow {X = X} P xs place = (n : ℕ) (x : X) → n < place → slice_get xs n ≡ Some x → P n x
+
+pub none_below : {X : Type 0} (P : ℕ → X → Type 0) (xs : List X) → HoldsBelow P xs 0
+none_below P xs n x less e = absurd (omega arith)
+
+pub one_below : {X : Type 0} (P : ℕ → X → Type 0) (xs : List X) (place : ℕ) (x y : X) →
+    slice_get xs place ≡ Some x → P place y → HoldsBelow P xs place →
+    HoldsBelow P (slice_set xs place y) (place + 1)
+one_below P xs place x y at here below n z less e = elim (below_next n place less) [
+  | inl w ↦ below n z w (sym (set_other xs place n y (λ same. absurd (omega arith))) ∙ e)
+  | inr w ↦ subst (λ m. P m z) (sym w) (subst (P place) (some_is y z (sym (set_same xs place x y at)
+      ∙ subst (λ m. slice_get (slice_set xs place y) m ≡ Some z) w e)) here)
+]
+
+-- what the case of a number saw last is so of its reading at a state
+abbrev pub SawReading : State → List Reading → ℕ → Case → Type 0
+SawReading s readings n c = (r : Reading) → slice_get readings n ≡ Some r → CaseSaw s c r
+
+pub saw_one : (s : State) (readings : List Reading) (n : ℕ) (c : Case) (r : Reading) →
+    slice_get readings n ≡ Some r → CaseSaw s c r → SawReading s readings n c
+saw_one s readings n c r at saw q there =
+    subst (CaseSaw s c) (some_is r q (sym at ∙ there)) saw
 
 -- the first of what is found
 

@@ -1,7 +1,7 @@
 -- What is kept of a trace for each case, so that no place of it is looked at again.
 use Rattle.std.specs.Prelude.{◌≡◌, ℕ, nat_le, List, [], ◌∷◌, ◌++◌, Bool, true, false, cond, not, ◌&&◌, ◌||◌}
 use Rattle.std.specs.Prelude.{Option, Some, None, drop, slice_get}
-use Rattle.std.specs.Option.{option_map, option_or}
+use Rattle.std.specs.Option.{option_map, option_or, ForSome}
 use Rattle.std.specs.List.{list_any, last_or}
 use Rattle.std.specs.Bool.{beq}
 use Rattle.case_tables.specs.declared.kind_table.Kind.{Kind}
@@ -96,3 +96,12 @@ pub record CaseStands (k : ℕ) (c : Case) (r : Reading) (states : List State) (
 abbrev pub CasesStand : ℕ → List Case → List Reading → List State → List ℕ → Type 0
 CasesStand k cases readings states choices = (number : ℕ) (c : Case) (r : Reading) → slice_get cases number ≡ Some c →
     slice_get readings number ≡ Some r → CaseStands k c r states choices
+
+-- what a case saw last, if it saw a place, is so at this state
+abbrev pub CaseSaw : State → Case → Reading → Type 0
+CaseSaw state c r = ForSome c.before (λ seen. seen ≡ seen_at r state)
+
+-- so it is of each of these cases, with the reading at its place
+abbrev pub CasesSaw : State → List Case → List Reading → Type 0
+CasesSaw state cases readings = (number : ℕ) (c : Case) (r : Reading) → slice_get cases number ≡ Some c →
+    slice_get readings number ≡ Some r → CaseSaw state c r

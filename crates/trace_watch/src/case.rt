@@ -18,7 +18,7 @@ pub(crate) struct Case {
     /// The instance that is to help.
     pub(crate) helper: Option<u32>,
     /// What held at the place before; `None` before the first.
-    before: Option<Seen>,
+    pub(crate) before: Option<Seen>,
     /// Whether there was a place with p since the last one with q; and the rounds since the earliest such place.
     waits: bool,
     count: RoundCount,
@@ -108,6 +108,7 @@ impl Case {
         choice: Option<u32>,
     ) -> Findings
         ensures now { result.now ≡ now }
+        ensures before { self.new.before ≡ Some now }
         ensures stands { (k : ℕ) (r : Reading) (state : State) (states : List State) (choices : List ℕ) →
             r.kind ≡ kind → waiting.seen_at r state ≡ now → IfSome choice (λ c. c < k) →
             length (choices ++ option_to_list choice) ≡ length states → CaseStands k self.old r states choices →

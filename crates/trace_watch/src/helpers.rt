@@ -66,8 +66,8 @@ fn number_of(arg: Arg, values: &[i64]) -> i128
     }
 }
 
-// The number at a place, or 0 past the end.
-fn value_at(values: &[i64], place: u32) -> i64
+/// The number at a place, or 0 past the end.
+pub(crate) fn value_at(values: &[i64], place: u32) -> i64
     ensures { result ≡ number_at values.now place }
 {
     match values.get(place as usize) {

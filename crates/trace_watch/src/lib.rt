@@ -3,12 +3,14 @@
 
 mod case;
 mod helpers;
+mod keeping;
 mod looking;
 mod making;
 mod numbers;
 mod place;
 mod step;
 mod tracing;
+mod trial;
 mod trying;
 mod violations;
 mod watch;

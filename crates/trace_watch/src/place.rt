@@ -1,4 +1,4 @@
-// A place of a trace: the program, and the state that it has reached.
+// A place of a trace: the program, the state that it has reached, and the one before.
 ghost use Rattle.std.specs.Prelude.{◌≤◌, IsTrue, length};
 ghost use Rattle.meaning_states.specs.State.{is_state};
 ghost use Rattle.core_terms.specs.Steps.{slot_ranges};
@@ -10,6 +10,8 @@ use core_terms::{CProgram, CSlot};
 pub(crate) struct Place<'a> {
     pub(crate) program: &'a CProgram,
     pub(crate) slots: &'a [CSlot],
+    /// The state of the place before; at the first place, its own.
+    pub(crate) before: &'a [i64],
     pub(crate) state: &'a [i64],
     ghost fits: { StatementsRun slots.now program.now.statements },
     ghost few: { length program.now.statements ≤ 4096 },

@@ -4,13 +4,14 @@ ghost use Rattle.meaning_states.specs.State.{is_state};
 ghost use Rattle.core_terms.specs.Steps.{slot_ranges};
 ghost use Rattle.executor.specs.Fitting.{StatementsRun};
 ghost use Rattle.trace_watch.specs.Places.{RecordFormsFit};
-ghost use Rattle.trace_watch.specs.Stepping.{StepFits};
+ghost use Rattle.trace_watch.specs.Stepping.{StepFits, StepSaw};
 
 use crate::looking::look;
 use crate::making::steps_of;
 use crate::numbers::{MOST_CASES, total_cases};
 use crate::place::Place;
 use crate::step::Step;
+use crate::trial::Trial;
 use crate::violations::{Violation, WatchError};
 use core_terms::{CProgram, CSlot};
 use fair_rounds::Record;
@@ -26,14 +27,17 @@ pub struct Watch<'a> {
     program: &'a CProgram,
     slots: &'a [CSlot],
     steps: Vec<Step<'a>>,
-    /// Room for a state.
-    trial: Vec<i64>,
+    /// The state of the last place.
+    state: Vec<i64>,
+    trial: Trial,
     /// What is violated at place 0.
     first: Option<Violation>,
     ghost program_fits: { StatementsRun slots.now program.now.statements },
     ghost few: { length program.now.statements ≤ 4096 },
     ghost steps_fit: { All (StepFits slots.now) steps.items },
-    ghost room: { length trial.items ≡ length slots.now },
+    ghost saw: { All (StepSaw program.now state.items) steps.items },
+    ghost size: { length state.items ≡ length slots.now },
+    ghost room: { length trial.room.items ≡ length slots.now },
 }
 
 impl<'a> Watch<'a> {
@@ -72,10 +76,12 @@ impl<'a> Watch<'a> {
             return Err(WatchError::Memory);
         }
         let mut steps = steps_of(alloc, p, slots, records)?;
-        let mut trial = Vec::from_slice(alloc, start)?;
+        let state = Vec::from_slice(alloc, start)?;
+        let mut trial = Trial::new(alloc, start)?;
         let here = Place {
             program: p,
             slots,
+            before: start,
             state: start,
         };
         let first = look(&here, None, &mut trial, &mut steps);
@@ -83,6 +89,7 @@ impl<'a> Watch<'a> {
             program: p,
             slots,
             steps,
+            state,
             trial,
             first,
         })
@@ -112,8 +119,11 @@ impl<'a> Watch<'a> {
         let here = Place {
             program: self.program,
             slots: self.slots,
+            before: self.state.as_slice(),
             state: next,
         };
-        look(&here, Some(choice), &mut self.trial, &mut self.steps)
+        let found = look(&here, Some(choice), &mut self.trial, &mut self.steps);
+        self.state.copy_from_slice(next);
+        found
     }
 }

@@ -6,58 +6,32 @@ use Rattle.fair_rounds.specs.Records.{holding}
 use Rattle.trace_watch.specs.Cases.{reading_of}
 use Rattle.trace_watch.specs.Places.{system_at, instances_at, state_at}
 use Rattle.trace_watch.specs.Waiting.{verdict}
-use Rattle.trace_watch.proofs.TraceLaws.{one_choice, reading_fails, seen_is}
-use Rattle.trace_watch.proofs.TryLaws.{form_holds}
+use Rattle.trace_watch.proofs.KeepLaws.{saw_now}
+use Rattle.trace_watch.proofs.TraceLaws.{one_choice, reading_fails}
 use Rattle.trace_watch.proofs.looking.look_case.Goals as goal
 
-pub holds-p-requires-clause-slots : goal.holds-p-requires-clause-slots
-holds-p-requires-clause-slots c =
-    (form_holds c.args.here.now.slots.now c.args.claim.now.params c.args.here.now.state.now c.args.values.now
-    c.args.claim.now.p c.args.here.now.is_state c.requires.values c.requires.fits.p).0
-
-pub holds-p-requires-clause-params : goal.holds-p-requires-clause-params
-holds-p-requires-clause-params c =
-    (form_holds c.args.here.now.slots.now c.args.claim.now.params c.args.here.now.state.now c.args.values.now
-    c.args.claim.now.p c.args.here.now.is_state c.requires.values c.requires.fits.p).1
-
-pub holds-p-requires-clause-weight : goal.holds-p-requires-clause-weight
-holds-p-requires-clause-weight c =
-    (form_holds c.args.here.now.slots.now c.args.claim.now.params c.args.here.now.state.now c.args.values.now
-    c.args.claim.now.p c.args.here.now.is_state c.requires.values c.requires.fits.p).2
-
-pub holds-q-requires-clause-slots : goal.holds-q-requires-clause-slots
-holds-q-requires-clause-slots c =
-    (form_holds c.args.here.now.slots.now c.args.claim.now.params c.args.here.now.state.now c.args.values.now
-    c.args.claim.now.q c.args.here.now.is_state c.requires.values c.requires.fits.q).0
-
-pub holds-q-requires-clause-params : goal.holds-q-requires-clause-params
-holds-q-requires-clause-params c =
-    (form_holds c.args.here.now.slots.now c.args.claim.now.params c.args.here.now.state.now c.args.values.now
-    c.args.claim.now.q c.args.here.now.is_state c.requires.values c.requires.fits.q).1
-
-pub holds-q-requires-clause-weight : goal.holds-q-requires-clause-weight
-holds-q-requires-clause-weight c =
-    (form_holds c.args.here.now.slots.now c.args.claim.now.params c.args.here.now.state.now c.args.values.now
-    c.args.claim.now.q c.args.here.now.is_state c.requires.values c.requires.fits.q).2
+pub returns-clause-saw : goal.returns-clause-saw
+returns-clause-saw c =
+    saw_now c.find-found.new.self (reading_of c.args.here.now.program.now c.args.claim.now c.args.values.now)
+    (state_at c.args.here.now) c.seen_here-now.result c.find-found.ensures.before c.seen_here-now.ensures
 
 pub returns-clause-stands : goal.returns-clause-stands
 returns-clause-stands c = λ states choices size h.
     let r = reading_of c.args.here.now.program.now c.args.claim.now c.args.values.now in
     c.find-found.ensures.stands (instances_at c.args.here.now) r (state_at c.args.here.now) states choices refl
-    (seen_is r (state_at c.args.here.now) c.holds-p.result c.holds-q.result c.holds-p.ensures c.holds-q.ensures)
-    c.requires.choice size h
+    c.seen_here-now.ensures c.requires.choice size h
 
 pub returns-clause-violated : goal.returns-clause-violated
 returns-clause-violated c = λ states choices size h.
     let here = c.args.here.now in
     let r = reading_of here.program.now c.args.claim.now c.args.values.now in
     let x = system_at here in
-    let seen = seen_is r (state_at here) c.holds-p.result c.holds-q.result c.holds-p.ensures c.holds-q.ensures in
+    let seen = c.seen_here-now.ensures in
     let stands = c.find-found.ensures.stands (instances_at here) r (state_at here) states choices refl seen
     c.requires.choice size h in
     let found = c.find-found.ensures.found (instances_at here) r (state_at here) states choices refl refl seen
     c.requires.choice size h in
-    c.fails.ensures
+    c.fails.ensures.verdict
     ∙ ap (λ o. verdict c.args.claim.now.kind x (holding c.args.values.now c.args.claim.now.q) o (state_at here)
     c.find-found.result) stands.helper
     ∙ ap (verdict c.args.claim.now.kind x (holding c.args.values.now c.args.claim.now.q) r.helper (state_at here))
