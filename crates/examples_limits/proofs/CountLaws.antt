@@ -1,5 +1,5 @@
 -- The numbers of the obligation that a small step is defined.
-use Rattle.std.proofs.Common.{◌≡◌, ℕ, suc, ◌+◌, ◌*◌, pos, negsuc, true, false, cond, None, [], ◌∷◌, ◌++◌, List}
+use Rattle.std.proofs.Common.{◌≡◌, ℕ, suc, length, ◌+◌, ◌*◌, pos, negsuc, true, false, cond, None, [], ◌∷◌, ◌++◌, List}
 use Rattle.std.proofs.Common.{refl, sym, ap, ◌∙◌}
 use Rattle.core_terms.specs.declared.trees.CTerm.{CTerm}
 use Rattle.core_terms.specs.declared.trees.CTerm.TheVariants.{Const, Slot, Sub}
@@ -168,4 +168,10 @@ has-numbers = record {
   need = ap (λ s. (s.leaves * 4) * leaf_units 1 s.quotients) shape-is;
   enough = ap (λ b. plain_leaves vs 960 rs b * leaf_units_of step_defined) first-is
       ∙ ap (λ n. n * leaf_units_of step_defined) (two-leaves 958) ∙ ap (λ s. 2 * leaf_units 1 s.quotients) shape-is;
+  opened = ap (λ (b : Branch). length b.facts) first-is;
+  settled = ap (λ b. length (settled vs (Not is_low) b).facts) first-is
+      ∙ ap (λ (b : Branch). length b.facts) (refused-least (Sub next (Const (pos 0)))
+      (record { factors = negsuc 0 ∷ []; constant = negsuc 1 }) opened (simp line_rules refl) (simp line_rules refl)
+      (simp line_rules refl));
+  units = refl;
 }

@@ -1,5 +1,3 @@
-pub mod ChainLaws
 pub mod CountLaws
-pub mod OpenLaws
 pub mod RangeLaws
 pub mod SwapLaws

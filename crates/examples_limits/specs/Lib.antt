@@ -1,4 +1,3 @@
 pub mod Count
 pub mod Deep
-pub mod Open
 pub mod Swap

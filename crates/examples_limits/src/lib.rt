@@ -1,10 +1,10 @@
-//! Trees, formulas and certificates of the greatest depth, and ranges of the greatest width, which calls take within
-//! an ordinary stack and in few turns; and small obligations and preconditions by hand. Nothing stands on this crate,
-//! and all of it is tests.
+//! Trees and formulas of the greatest depth, and ranges of the greatest width, which calls take within an ordinary
+//! stack and in few turns; chains that are found to close facts; and small obligations and preconditions by hand.
+//! Nothing stands on this crate, and all of it is tests.
 #![tactic(auto)]
 
 #[cfg(test)]
-mod deep_certificates;
+mod chains;
 #[cfg(test)]
 mod deep_obligations;
 #[cfg(test)]

@@ -64,24 +64,13 @@ fn takes_no_turn_without_an_instance(rt: HostRuntime) -> Result<(), Fail> {
     let alloc = rt.alloc();
     let wide = range(constant(1), constant(MOST));
 
-    // Each number is 999999999 or 10^9, and none is above the one before it.
-    let falling = [
-        wide,
-        range(constant(999_999_999), named(0, 0)),
-        range(constant(999_999_999), named(1, 0)),
-        range(constant(999_999_999), named(2, 0)),
-        range(constant(999_999_999), named(3, 0)),
-        range(constant(999_999_999), named(4, 0)),
-    ];
-    // Each number is 1 or 2, and none is below the one before it.
-    let rising = [
-        wide,
-        range(named(0, 0), constant(2)),
-        range(named(1, 0), constant(2)),
-        range(named(2, 0), constant(2)),
-        range(named(3, 0), constant(2)),
-        range(named(4, 0), constant(2)),
-    ];
+    // Each number is 999999999 or 10^9, and none is above the one before it; or it is 1 or 2, and none is below.
+    let mut falling = [wide; 6];
+    let mut rising = [wide; 6];
+    for level in 0..5 {
+        falling[level + 1] = range(constant(999_999_999), named(level, 0));
+        rising[level + 1] = range(named(level, 0), constant(2));
+    }
     for depth in 2..=6 {
         let few = depth as u64 + 1;
         assert!(rt; turns_are_few(alloc, &falling[..depth], few)?);
@@ -105,14 +94,8 @@ fn takes_no_turn_where_the_last_range_is_empty(rt: HostRuntime) -> Result<(), Fa
     assert!(rt; turns_are_few(alloc, &steps, 4)?);
 
     // Where the last range is empty, no number is tried.
-    let none = [
-        wide,
-        wide,
-        wide,
-        wide,
-        wide,
-        range(constant(5), constant(4)),
-    ];
+    let mut none = [wide; 6];
+    none[5] = range(constant(5), constant(4));
     assert!(rt; turns_are_few(alloc, &none, 0)?);
     Ok(())
 }
