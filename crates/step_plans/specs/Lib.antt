@@ -1,0 +1,5 @@
+pub mod Books
+pub mod Laws
+pub mod Planning
+pub mod Stepping
+pub mod Summaries

@@ -1,0 +1,15 @@
+//! The steps of a document's proofs, planned one after the other, and what is kept of a plan.
+#![tactic(auto)]
+
+mod books;
+mod laws;
+mod planner;
+mod planning;
+mod programs;
+mod summaries;
+
+pub use books::book_of;
+pub use laws::step_laws;
+pub use planner::Planner;
+pub use planning::PlannedStep;
+pub use summaries::Summary;
