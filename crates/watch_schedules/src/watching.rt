@@ -12,10 +12,10 @@ use crate::error::WatchStop;
 use core_terms::{CDocument, CProgram};
 use executor::{Runner, start_of};
 use fair_rounds::Record;
-use proof_plans::{Plan, walk};
 use run_traces::scheduled_program;
 use schedule_replay::read_schedule;
 use std::alloc::Global;
+use step_plans::book_of;
 use trace_watch::{Ending, Watch, watch_choices};
 use unity_base::Seq;
 
@@ -79,18 +79,13 @@ fn is_proved(doc: &CDocument, program: &CProgram) -> bool
     false
 }
 
-// The records of all steps of the document's proofs. What is left to be shown is let go.
+// The records of all steps of the document's proofs. What is left to be shown is let go, step by step.
 fn records_of(alloc: Global, doc: &CDocument) -> Result<Seq<Record>, WatchStop>
     requires { IsCoreDocument doc.now }
     ensures records { IfOk result (IsBookOf doc.now) }
     ensures refused { IfErr result (HasNoBook doc.now) }
 {
-    let Plan {
-        records,
-        obligations: _,
-        owner: _,
-    } = walk(alloc, doc)?;
-    Ok(records)
+    Ok(book_of(alloc, doc)?)
 }
 
 // Watches a program from the runner's state for the steps of its proof that are among these records.
