@@ -1,7 +1,7 @@
 //! What follows from limits of lines that are sums of two others.
 use crate::events::Event;
 use crate::limits::Limits;
-use conflict_tables::{Stop, Table, Triangle, line_of, way_of};
+use conflict_tables::{Stop, Table, Triangle, opposite, way_of};
 
 /// Limits one way of a line by those of the two lines of which it is the sum.
 fn follow_corner(
@@ -20,7 +20,7 @@ fn follow_corner(
     let Some(bound) = one.bound.checked_add(two.bound) else {
         return Ok(());
     };
-    if !is_news(table, limits, to, turned, bound) {
+    if !is_news(table, limits, to, bound) {
         return Ok(());
     }
     let start = limits.begin_reason();
@@ -42,10 +42,9 @@ fn follow_corner(
 }
 
 /// Whether a bound of a way is tighter than its limit and than those of its variables.
-fn is_news(table: &Table, limits: &Limits, way: usize, turned: bool, bound: i64) -> bool {
+fn is_news(table: &Table, limits: &Limits, way: usize, bound: i64) -> bool {
     let known = limits.limit(way).is_some_and(|limit| bound <= limit.bound);
-    let factors = table.line_factors(line_of(way));
-    let least = limits.greatest(factors, !turned);
+    let least = limits.greatest_of_way(table, opposite(way));
     !known && !least.is_some_and(|most| bound <= most.saturating_neg())
 }
 

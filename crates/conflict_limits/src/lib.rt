@@ -6,6 +6,7 @@ mod copies;
 mod corners;
 mod events;
 mod limits;
+mod masks;
 mod partners;
 mod path;
 mod propagation;
@@ -16,7 +17,8 @@ mod trees;
 
 pub use events::{Conflict, Event, Limit, Reach, Reason, Weighted};
 pub use limits::{Limits, LimitsMark, no_limits};
-pub use partners::has_partner;
+pub use masks::mask_of_factors;
+pub use partners::{PARTNERED, has_partner};
 pub use path::{Path, PathMark, Quotient, no_path};
 pub use propagation::propagate;
 pub use rounds::{Pair, Round, Source};

@@ -1,14 +1,27 @@
 //! The limits of variables and of lines on a path, each with its reason, and what contradicts them.
 
 use crate::events::{Conflict, Event, Limit, Reach, Reason, Weighted, bound_above};
+use crate::masks::{NONE, mask_of, mask_of_factors};
 use crate::partners::meet_partner;
 use crate::queue::{Queue, no_queue};
 use conflict_tables::{
-    Fact, Factor, Span, Stop, Table, at, is_against, items_in, line_of, opposite, put, repeated,
-    way_of,
+    Fact, Factor, Span, Stop, Table, at, is_against, items_in, line_of, opposite, put, way_of,
 };
 use std::alloc::{AllocError, Global};
 use unity_base::Seq;
+
+/// The number of no item of a list.
+const END: usize = usize::MAX;
+
+/// A line of several variables in which a variable occurs, and the next one.
+#[derive(Clone, Copy)]
+struct Occurrence {
+    line: usize,
+    /// How often the variable counts there.
+    times: i64,
+    /// The number of the next occurrence of the same variable, or `END`.
+    next: usize,
+}
 
 /// The limits.
 #[derive(Drop)]
@@ -23,10 +36,19 @@ pub struct Limits {
     pub(crate) clash: Seq<Weighted>,
     /// Lines that may limit their variables anew.
     pub(crate) queue: Queue,
-    /// When the variables of each mask with one member were limited last.
-    changed: Seq<u64>,
-    /// How many limits were given so far, from 1 on.
-    pub clock: u64,
+    /// The greatest value of each way of a line within the limits of its variables; wrapped where it is too great.
+    reaches: Seq<Reach>,
+    /// The first occurrence of each variable.
+    heads: Seq<usize>,
+    occurrences: Seq<Occurrence>,
+    /// Of each line, whether no value within the ranges is too great.
+    narrow: Seq<bool>,
+    /// The greatest distance from 0 within the range of each variable that has one.
+    sizes: Seq<u64>,
+    /// The lines that have new limits, or whose variables have.
+    changed: Queue,
+    /// The variables that have new limits, with those of lines that have.
+    touched: u64,
     /// How many more lines and formulas are looked at.
     steps: u64,
 }
@@ -55,21 +77,98 @@ pub fn no_limits(alloc: Global, steps: u64) -> Result<Limits, AllocError> {
         conflict: None,
         clash: Seq::new(alloc),
         queue: no_queue(alloc),
-        changed: repeated(alloc, 0, 64)?,
-        clock: 1,
+        reaches: Seq::new(alloc),
+        heads: Seq::new(alloc),
+        occurrences: Seq::new(alloc),
+        narrow: Seq::new(alloc),
+        sizes: Seq::new(alloc),
+        changed: no_queue(alloc),
+        touched: NONE,
         steps,
     })
 }
 
 impl Limits {
+    /// Says how far from 0 the range of the next variable goes. An error where memory is refused.
+    pub fn know_size(&mut self, variable: usize, size: u64) -> Result<(), Stop> {
+        if variable == self.sizes.len() {
+            self.sizes.push(size)?;
+        }
+        Ok(())
+    }
+
     /// Takes in lines that are new in the table. An error where memory is refused.
     pub fn grow(&mut self, table: &Table) -> Result<(), Stop> {
-        for _ in self.queue.room()..table.count_lines() {
+        for line in self.queue.room()..table.count_lines() {
             self.tightest.push(None)?;
             self.tightest.push(None)?;
             self.queue.grow()?;
+            self.changed.grow()?;
+            let factors = table.line_factors(line);
+            let narrow = !table.is_single(line) && self.is_narrow(factors);
+            self.narrow.push(narrow)?;
+            let most = self.reach_of(factors, false);
+            self.reaches.push(most)?;
+            let least = self.reach_of(factors, true);
+            self.reaches.push(least)?;
+            self.heads.push(END)?;
+            if !table.is_single(line) {
+                self.add_occurrences(line, factors)?;
+            }
         }
         Ok(())
+    }
+
+    /// Says of each variable of a line that it occurs in it.
+    fn add_occurrences(&mut self, line: usize, factors: &[Factor]) -> Result<(), Stop> {
+        for factor in factors {
+            let number = self.occurrences.len();
+            let next = self.first_occurrence(factor.variable);
+            self.occurrences.push(Occurrence {
+                line,
+                times: factor.times,
+                next,
+            })?;
+            put(&mut self.heads, factor.variable, number);
+        }
+        Ok(())
+    }
+
+    /// The number of the first occurrence of a variable, or `END`.
+    fn first_occurrence(&self, variable: usize) -> usize {
+        match self.heads.get(variable) {
+            Some(head) => *head,
+            None => END,
+        }
+    }
+
+    /// Whether no value of a sum of factors within the ranges is too great.
+    fn is_narrow(&self, factors: &[Factor]) -> bool {
+        let mut sum: u64 = 0;
+        for factor in factors {
+            let Some(size) = self.sizes.get(factor.variable) else {
+                return false;
+            };
+            sum = sum.saturating_add(size.saturating_mul(factor.times.unsigned_abs()));
+        }
+        sum < 1 << 62
+    }
+
+    /// The greatest value of a sum of factors, or of its negative, wrapped.
+    fn reach_of(&self, factors: &[Factor], against: bool) -> Reach {
+        let mut sum: i64 = 0;
+        let mut open: usize = 0;
+        for factor in factors {
+            let falls = (factor.times < 0) != against;
+            match self.limit(way_of(factor.variable, !falls)) {
+                Some(limit) => {
+                    let times = factor.times.wrapping_abs();
+                    sum = sum.wrapping_sub(times.wrapping_mul(limit.bound));
+                }
+                None => open = open.saturating_add(1),
+            }
+        }
+        Reach { sum, open }
     }
 
     /// Counts a step. The last one ends the search.
@@ -104,20 +203,16 @@ impl Limits {
         items_in(&self.reasons, span)
     }
 
-    /// Whether none of the variables of a mask was limited after a time.
-    pub fn is_unchanged(&self, mask: u64, time: u64) -> bool {
-        let mut rest = mask;
-        for _ in 0..64 {
-            if rest == 0 {
-                return true;
-            }
-            match self.changed.get(rest.trailing_zeros() as usize) {
-                Some(last) if *last <= time => {}
-                _ => return false,
-            }
-            rest &= rest.wrapping_sub(1);
-        }
-        true
+    /// The lines that changed since this was asked last, one after the other.
+    pub fn next_changed(&mut self) -> Option<usize> {
+        self.changed.next()
+    }
+
+    /// The variables that were touched since this was asked last, as a mask.
+    pub fn take_touched(&mut self) -> u64 {
+        let mask = self.touched;
+        self.touched = NONE;
+        mask
     }
 
     /// The multiples of limits on which an event rests; none for a fact.
@@ -142,6 +237,41 @@ impl Limits {
             }
         }
         Some(Reach { sum, open })
+    }
+
+    /// The greatest value of a way of a line within the limits of its variables.
+    pub fn reach_of_way(&self, table: &Table, way: usize) -> Option<Reach> {
+        let line = line_of(way);
+        match self.narrow.get(line) {
+            Some(true) => self.reaches.get(way).copied(),
+            _ => self.reach(table.line_factors(line), is_against(way)),
+        }
+    }
+
+    /// The greatest value of a way of a line within the limits of its variables, where it has one.
+    pub fn greatest_of_way(&self, table: &Table, way: usize) -> Option<i64> {
+        let reach = self.reach_of_way(table, way)?;
+        if reach.open == 0 {
+            Some(reach.sum)
+        } else {
+            None
+        }
+    }
+
+    /// The least value of a way, by its limit and those of its variables, where it has one.
+    pub fn least_of(&self, table: &Table, way: usize) -> Option<i64> {
+        let own = self.limit(way).map(|limit| limit.bound);
+        if table.is_single(line_of(way)) {
+            return own;
+        }
+        let other = self
+            .greatest_of_way(table, opposite(way))
+            .map(|most| most.saturating_neg());
+        match (own, other) {
+            (Some(a), Some(b)) => Some(a.max(b)),
+            (None, _) => other,
+            (_, None) => own,
+        }
     }
 
     /// The greatest value of a sum of factors, or of its negative, where it has one.
@@ -191,11 +321,13 @@ impl Limits {
             event: number,
         };
         put(&mut self.tightest, event.way, Some(limit));
-        self.meet_opposite(event.way, limit)?;
-        if self.conflict.is_none() {
-            self.follow(table, event.way)?;
-        }
-        Ok(())
+        self.follow(
+            table,
+            event.way,
+            before.map(|limit| limit.bound),
+            event.bound,
+        )?;
+        self.meet_opposite(event.way, limit)
     }
 
     /// The number of an event that is kept aside: it is no limit of its way. An error where memory is refused.
@@ -250,34 +382,69 @@ impl Limits {
         Ok(())
     }
 
-    /// Says of the lines that a limit may touch that they are to be looked at.
-    fn follow(&mut self, table: &Table, way: usize) -> Result<(), Stop> {
+    /// Says of the lines that a new limit of a way may touch that they are to be looked at.
+    fn follow(
+        &mut self,
+        table: &Table,
+        way: usize,
+        old: Option<i64>,
+        bound: i64,
+    ) -> Result<(), Stop> {
         let line = line_of(way);
-        self.clock = self.clock.saturating_add(1);
+        self.changed.add(line)?;
         if table.is_single(line) {
-            put(&mut self.changed, line % 64, self.clock);
-            self.queue_lines_of(table, line)
+            self.touched |= mask_of(line);
+            self.follow_variable(way, old, bound)
         } else {
-            for factor in table.line_factors(line) {
-                put(&mut self.changed, factor.variable % 64, self.clock);
-            }
+            self.touched |= mask_of_factors(table.line_factors(line));
             self.queue.add(line)
         }
     }
 
-    /// Says that the lines in which a variable occurs are to be looked at, where they have a limit.
-    fn queue_lines_of(&mut self, table: &Table, variable: usize) -> Result<(), Stop> {
-        let mut next = table.first_link(variable);
-        for _ in 0..table.count_lines() {
-            let Some(link) = next.and_then(|number| table.link(number)) else {
+    /// Moves the ends of the lines in which a variable occurs, and says that they are to be looked at, where they have
+    /// a limit.
+    fn follow_variable(&mut self, way: usize, old: Option<i64>, bound: i64) -> Result<(), Stop> {
+        let change = bound.wrapping_sub(old.unwrap_or(0));
+        let opened = if old.is_none() { usize::MAX } else { 0 };
+        let mut next = self.first_occurrence(line_of(way));
+        for _ in 0..self.occurrences.len() {
+            let Some(found) = self.occurrences.get(next).copied() else {
                 return Ok(());
             };
-            if self.has_limit(link.line) {
-                self.queue.add(link.line)?;
+            self.move_reach(found, is_against(way), change, opened);
+            self.changed.add(found.line)?;
+            if self.has_limit(found.line) {
+                self.queue.add(found.line)?;
             }
-            next = link.next;
+            next = found.next;
         }
         Ok(())
+    }
+
+    /// Moves an end of a line as a limit of a variable changes, and adds so many to those that are open, wrapped.
+    fn move_reach(&mut self, found: Occurrence, against: bool, change: i64, opened: usize) {
+        let way = way_of(found.line, (found.times < 0) == against);
+        if let Some(reach) = self.reaches.get(way) {
+            let times = found.times.wrapping_abs();
+            let moved = Reach {
+                sum: reach.sum.wrapping_sub(times.wrapping_mul(change)),
+                open: reach.open.wrapping_add(opened),
+            };
+            put(&mut self.reaches, way, moved);
+        }
+    }
+
+    /// Moves the ends of the lines in which a variable occurs back to where they were before a limit.
+    fn move_back(&mut self, way: usize, old: Option<i64>, bound: i64) {
+        let change = old.unwrap_or(0).wrapping_sub(bound);
+        let mut next = self.first_occurrence(line_of(way));
+        for _ in 0..self.occurrences.len() {
+            let Some(found) = self.occurrences.get(next).copied() else {
+                return;
+            };
+            self.move_reach(found, is_against(way), change, usize::from(old.is_none()));
+            next = found.next;
+        }
     }
 
     /// Whether a line has a limit.
@@ -318,12 +485,14 @@ impl Limits {
 
     /// Whether the limit of a line of several variables is out of reach of theirs.
     pub fn meet_variables(&mut self, table: &Table, way: usize) -> Result<(), Stop> {
-        let factors = table.line_factors(line_of(way));
+        if table.is_single(line_of(way)) {
+            return Ok(());
+        }
         if let Some(limit) = self.limit(way) {
-            if let Some(most) = self.greatest(factors, is_against(way)) {
-                if most < limit.bound && !table.is_single(line_of(way)) {
+            if let Some(most) = self.greatest_of_way(table, way) {
+                if most < limit.bound {
                     self.begin_clash(limit.event)?;
-                    self.add_bounds(factors, is_against(way))?;
+                    self.add_bounds(table.line_factors(line_of(way)), is_against(way))?;
                     self.end_clash(limit.bound.saturating_sub(most).saturating_sub(1));
                 }
             }
@@ -340,26 +509,32 @@ impl Limits {
     }
 
     /// Takes the limits back to a state, and any conflict.
-    pub fn take_back(&mut self, mark: LimitsMark) {
+    pub fn take_back(&mut self, table: &Table, mark: LimitsMark) {
         for _ in mark.events..self.events.len() {
             if let Some(event) = self.events.pop() {
                 let number = self.events.len();
-                self.forget(event, number);
+                self.forget(table, event, number);
             }
         }
         self.reasons.truncate(mark.reasons);
         self.conflict = None;
         self.queue.clear();
+        self.changed.clear();
+        self.touched = NONE;
     }
 
     /// Takes back the limit that an event of this number gave, unless it was kept aside.
-    fn forget(&mut self, event: Event, number: usize) {
+    fn forget(&mut self, table: &Table, event: Event, number: usize) {
         if self
             .limit(event.way)
             .is_some_and(|limit| limit.event == number)
         {
             let limit = self.limit_before(event);
             put(&mut self.tightest, event.way, limit);
+            if table.is_single(line_of(event.way)) {
+                let old = limit.map(|before| before.bound);
+                self.move_back(event.way, old, event.bound);
+            }
         }
     }
 

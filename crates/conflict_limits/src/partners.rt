@@ -5,7 +5,7 @@ use conflict_tables::{Factor, Stop, Table, is_against, line_of, no_sum, way_of};
 use std::alloc::Global;
 
 /// How many variables a line has at least whose partners are sought.
-const FACTORS: usize = 3;
+pub const PARTNERED: usize = 3;
 
 /// The two factors of one variable, of which one may be missing.
 #[derive(Clone, Copy)]
@@ -146,7 +146,7 @@ fn partner(
     bound: i64,
 ) -> Result<Option<(usize, Limit, i64)>, Stop> {
     let factors = table.line_factors(line_of(way));
-    if factors.len() >= FACTORS {
+    if factors.len() >= PARTNERED {
         for factor in factors {
             if let Some(found) = partner_of(table, limits, way, bound, factor.variable)? {
                 return Ok(Some(found));

@@ -109,16 +109,16 @@ fn follow_way(table: &Table, limits: &mut Limits, way: usize) -> Result<(), Stop
         return Ok(());
     };
     limits.meet_variables(table, way)?;
-    let factors = table.line_factors(line_of(way));
-    let mut reach = limits.reach(factors, is_against(way));
-    for place in 0..factors.len() {
+    let count = table.line_factors(line_of(way)).len();
+    let mut reach = limits.reach_of_way(table, way);
+    for place in 0..count {
         if limits.conflict.is_some() {
             return Ok(());
         }
         if let Some(known) = reach {
             limits.count_step()?;
             if limit_variable(table, limits, way, limit, known, place)? {
-                reach = limits.reach(factors, is_against(way));
+                reach = limits.reach_of_way(table, way);
             }
         }
     }

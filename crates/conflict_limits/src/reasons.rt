@@ -3,53 +3,88 @@
 use crate::events::{Event, Reason, Weighted};
 use crate::limits::Limits;
 use crate::rounds::{Pair, Round, Source};
-use conflict_tables::{Stop, at, common_divisor, plus, put, repeated, times};
+use conflict_tables::{Stop, at, common_divisor, plus, put, times};
 use std::alloc::Global;
 use unity_base::Seq;
+
+/// How many events share a word of bits.
+const WORD: usize = 64;
+
+/// The bit of an event in its word.
+fn bit_of(event: usize) -> u64 {
+    1u64 << (event % WORD)
+}
 
 /// Multiples of events that are to be replaced by what they rest on.
 #[derive(Drop)]
 struct Multiples {
     /// Of each event.
     of: Seq<i64>,
-    /// How many of them are not zero.
-    open: usize,
+    /// A bit for each event whose multiple may not be zero.
+    bits: Seq<u64>,
 }
 
 impl Multiples {
-    /// Puts a multiple in the place of an event's.
-    fn put(&mut self, event: usize, multiple: i64) -> Result<(), Stop> {
-        if at(&self.of, event)? != 0 {
-            self.open = self.open.saturating_sub(1);
+    /// Has room for so many events.
+    fn grow(&mut self, events: usize) -> Result<(), Stop> {
+        for _ in self.of.len()..events {
+            self.of.push(0)?;
         }
-        if multiple != 0 {
-            self.open = self.open.saturating_add(1);
+        for _ in self.bits.len()..(events / WORD).saturating_add(1) {
+            self.bits.push(0)?;
         }
-        put(&mut self.of, event, multiple);
         Ok(())
     }
 
     /// Adds a multiple of an event.
     fn add(&mut self, event: usize, by: i64) -> Result<(), Stop> {
         let total = plus(at(&self.of, event)?, by)?;
-        self.put(event, total)
+        put(&mut self.of, event, total);
+        let word = event / WORD;
+        let bits = at(&self.bits, word)? | bit_of(event);
+        put(&mut self.bits, word, bits);
+        Ok(())
     }
 
     /// Takes the multiple of an event out.
     fn take(&mut self, event: usize) -> Result<i64, Stop> {
         let by = at(&self.of, event)?;
-        if by != 0 {
-            self.put(event, 0)?;
-        }
+        put(&mut self.of, event, 0);
+        let word = event / WORD;
+        let bits = at(&self.bits, word)? & !bit_of(event);
+        put(&mut self.bits, word, bits);
         Ok(by)
     }
 
-    /// Multiplies those of the events before one.
-    fn multiply(&mut self, events: usize, by: i64) -> Result<(), Stop> {
-        for place in 0..events {
-            let multiple = at(&self.of, place)?;
-            if multiple != 0 {
-                put(&mut self.of, place, times(multiple, by)?);
+    /// The newest event of a word whose multiple may not be zero.
+    fn newest(&self, word: usize) -> Option<usize> {
+        match self.bits.get(word) {
+            Some(bits) if *bits != 0 => {
+                let first = word.wrapping_mul(WORD);
+                Some(first.wrapping_add(63 - (bits.leading_zeros() as usize).min(63)))
+            }
+            _ => None,
+        }
+    }
+
+    /// Multiplies all.
+    fn multiply(&mut self, by: i64) -> Result<(), Stop> {
+        for word in 0..self.bits.len() {
+            if at(&self.bits, word)? != 0 {
+                self.multiply_word(word, by)?;
+            }
+        }
+        Ok(())
+    }
+
+    /// Multiplies those of a word.
+    fn multiply_word(&mut self, word: usize, by: i64) -> Result<(), Stop> {
+        let first = word.wrapping_mul(WORD);
+        for step in 0..WORD {
+            let place = first.wrapping_add(step);
+            if let Some(multiple) = self.of.get(place) {
+                let more = times(*multiple, by)?;
+                put(&mut self.of, place, more);
             }
         }
         Ok(())
@@ -65,6 +100,19 @@ struct Rounded {
 }
 
 impl Rounded {
+    /// Forgets the events, and has room for so many.
+    fn begin(&mut self, events: usize) -> Result<(), Stop> {
+        for _ in 0..self.events.len() {
+            if let Some(event) = self.events.pop() {
+                put(&mut self.numbers, event, None);
+            }
+        }
+        for _ in self.numbers.len()..events {
+            self.numbers.push(None)?;
+        }
+        Ok(())
+    }
+
     /// The number of an event, which is a new one where it was not met before.
     fn number(&mut self, event: usize) -> Result<usize, Stop> {
         if let Some(number) = at(&self.numbers, event)? {
@@ -86,7 +134,23 @@ struct Taking {
     spare: i64,
 }
 
+/// Nothing was replaced yet.
+fn no_taking(alloc: Global) -> Taking {
+    Taking {
+        pairs: Seq::new(alloc),
+        scale: 1,
+        spare: 0,
+    }
+}
+
 impl Taking {
+    /// Forgets all, with so much to spare.
+    fn begin(&mut self, spare: i64) {
+        self.pairs.truncate(0);
+        self.scale = 1;
+        self.spare = spare;
+    }
+
     /// Adds a multiple of a source.
     fn add_pair(&mut self, by: i64, source: Source) -> Result<(), Stop> {
         for place in 0..self.pairs.len() {
@@ -174,7 +238,6 @@ fn missing(by: i64, divisor: i64) -> Result<i64, Stop> {
 /// Replaces a multiple of an event that was not rounded by its reason.
 fn take_exact(
     limits: &Limits,
-    number: usize,
     event: Event,
     by: i64,
     multiples: &mut Multiples,
@@ -182,7 +245,7 @@ fn take_exact(
 ) -> Result<(), Stop> {
     let factor = missing(by, event.divisor)?;
     if factor != 1 {
-        multiples.multiply(number, factor)?;
+        multiples.multiply(factor)?;
         taking.multiply(factor)?;
     }
     let part = times(by, factor)?
@@ -216,7 +279,7 @@ fn take_event(
         return Ok(());
     }
     if event.tight {
-        take_exact(limits, number, event, by, multiples, taking)
+        take_exact(limits, event, by, multiples, taking)
     } else {
         taking.add_pair(by, Source::Round(rounded.number(number)?))
     }
@@ -243,31 +306,27 @@ fn spare_of(limits: &Limits, event: Event, weights: &[Weighted]) -> Result<i64, 
 
 /// What multiples of events rest on, in one pass from the newest event back.
 fn explain(
-    alloc: Global,
     limits: &Limits,
     start: &[Weighted],
-    spare: i64,
     multiples: &mut Multiples,
     rounded: &mut Rounded,
-) -> Result<Taking, Stop> {
-    let mut taking = Taking {
-        pairs: Seq::new(alloc),
-        scale: 1,
-        spare,
-    };
-    let mut count: usize = 0;
+    taking: &mut Taking,
+) -> Result<(), Stop> {
+    let mut words: usize = 0;
     for weighted in start {
         multiples.add(weighted.event, weighted.times)?;
-        count = count.max(weighted.event.saturating_add(1));
+        words = words.max((weighted.event / WORD).saturating_add(1));
     }
-    for back in 0..count {
-        if multiples.open == 0 {
-            break;
+    for back in 0..words {
+        let word = words - 1 - back;
+        for _ in 0..WORD {
+            let Some(number) = multiples.newest(word) else {
+                break;
+            };
+            take_event(limits, number, multiples, rounded, taking)?;
         }
-        take_event(limits, count - 1 - back, multiples, rounded, &mut taking)?;
     }
-    taking.lighten(true)?;
-    Ok(taking)
+    taking.lighten(true)
 }
 
 /// The round for an event: of one fact, or of what its reason rests on.
@@ -293,8 +352,9 @@ fn round_of(
         }
         Reason::Sum(span) => {
             let weights = limits.weights(span);
-            let spare = spare_of(limits, event, weights)?;
-            let taking = explain(alloc, limits, weights, spare, multiples, rounded)?;
+            let mut taking = no_taking(alloc);
+            taking.spare = spare_of(limits, event, weights)?;
+            explain(limits, weights, multiples, rounded, &mut taking)?;
             Ok(Round {
                 divisor: times(event.divisor, taking.scale)?,
                 pairs: taking.pairs,
@@ -303,30 +363,75 @@ fn round_of(
     }
 }
 
-/// The pairs of a sum that a clash of limits comes from, and the rounds that it rests on, in no order.
-pub fn explained(
-    alloc: Global,
-    limits: &Limits,
-    spare: i64,
-) -> Result<(Seq<Round>, Seq<Pair>), Stop> {
-    let count = limits.count_events();
-    let mut multiples = Multiples {
-        of: repeated(alloc, 0, count)?,
-        open: 0,
-    };
-    let mut rounded = Rounded {
-        events: Seq::new(alloc),
-        numbers: repeated(alloc, None, count)?,
-    };
-    let start = limits.clash.as_slice();
-    let mut taking = explain(alloc, limits, start, spare, &mut multiples, &mut rounded)?;
-    taking.lighten(false)?;
-    let mut rounds = Seq::new(alloc);
-    for place in 0..count {
-        let Some(number) = rounded.events.get(place).copied() else {
-            break;
-        };
-        rounds.push(round_of(alloc, limits, number, &mut multiples, &mut rounded)?)?;
+/// What conflicts are taken apart in, the same for all.
+#[derive(Drop)]
+pub struct Explainer {
+    multiples: Multiples,
+    rounded: Rounded,
+    taking: Taking,
+}
+
+/// Nothing is taken apart yet.
+pub fn no_explainer(alloc: Global) -> Explainer {
+    Explainer {
+        multiples: Multiples {
+            of: Seq::new(alloc),
+            bits: Seq::new(alloc),
+        },
+        rounded: Rounded {
+            events: Seq::new(alloc),
+            numbers: Seq::new(alloc),
+        },
+        taking: no_taking(alloc),
     }
-    Ok((rounds, taking.pairs))
+}
+
+impl Explainer {
+    /// The pairs of the sum that was explained last.
+    pub fn pairs(&self) -> &Seq<Pair> {
+        &self.taking.pairs
+    }
+
+    /// The sum that is one item.
+    pub fn explain_item(&mut self, item: usize) -> Result<(), Stop> {
+        self.taking.begin(0);
+        self.taking.add_pair(1, Source::Item(item))
+    }
+
+    /// Finds the pairs of a sum that a clash of limits comes from, and gives the rounds that it rests on, in the order
+    /// in which they were met.
+    pub fn explain(
+        &mut self,
+        alloc: Global,
+        limits: &Limits,
+        spare: i64,
+    ) -> Result<Seq<Round>, Stop> {
+        let count = limits.count_events();
+        self.multiples.grow(count)?;
+        self.rounded.begin(count)?;
+        self.taking.begin(spare);
+        explain(
+            limits,
+            limits.clash.as_slice(),
+            &mut self.multiples,
+            &mut self.rounded,
+            &mut self.taking,
+        )?;
+        self.taking.lighten(false)?;
+        let mut rounds = Seq::new(alloc);
+        for place in 0..count {
+            let Some(number) = self.rounded.events.get(place).copied() else {
+                break;
+            };
+            let round = round_of(
+                alloc,
+                limits,
+                number,
+                &mut self.multiples,
+                &mut self.rounded,
+            )?;
+            rounds.push(round)?;
+        }
+        Ok(rounds)
+    }
 }

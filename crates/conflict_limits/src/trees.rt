@@ -4,10 +4,11 @@ use crate::copies::tied;
 use crate::events::Conflict;
 use crate::limits::Limits;
 use crate::path::Path;
-use crate::reasons::explained;
+use crate::reasons::{Explainer, no_explainer};
 use crate::rounds::{Pair, Round, Source, in_order};
-use conflict_tables::{Span, Stop, Table, append, at, items_in};
+use conflict_tables::{Span, Stop, Table, append, at, items_in, put};
 use std::alloc::{AllocError, Global};
+use std::mem;
 use unity_base::Seq;
 
 /// A node. Its additions have the places from `start` on.
@@ -56,6 +57,7 @@ pub struct Tree {
     pub first: usize,
     /// The number of the second.
     pub second: usize,
+    /// Where a bit for each item before it that it uses stands.
     used: Span,
     /// Its size in units.
     pub units: u64,
@@ -70,13 +72,17 @@ pub struct LeafRound {
     pub pairs: Span,
 }
 
+/// How many items share a word of bits.
+const WORD: usize = 64;
+
 /// All trees.
 #[derive(Drop)]
 pub struct Trees {
     trees: Seq<Tree>,
     rounds: Seq<LeafRound>,
     pairs: Seq<Pair>,
-    used: Seq<usize>,
+    used: Seq<u64>,
+    explainer: Explainer,
 }
 
 /// No trees.
@@ -86,60 +92,47 @@ pub fn no_trees(alloc: Global) -> Trees {
         rounds: Seq::new(alloc),
         pairs: Seq::new(alloc),
         used: Seq::new(alloc),
+        explainer: no_explainer(alloc),
     }
 }
 
-/// How many of places that rise are before this one.
-fn count_before(list: &[usize], item: usize) -> usize {
-    for back in 0..list.len() {
-        let place = list.len() - 1 - back;
-        if let Some(other) = list.get(place) {
-            if *other < item {
-                return place.saturating_add(1);
-            }
-        }
-    }
-    0
+/// The bit of an item in its word.
+fn bit_of(item: usize) -> u64 {
+    1u64 << (item % WORD)
 }
 
-/// Puts a place among others that rise, once.
-fn insert_place(list: &mut Seq<usize>, item: usize) -> Result<(), AllocError> {
-    let place = count_before(list.as_slice(), item);
-    match list.get(place) {
-        Some(other) if *other == item => Ok(()),
-        _ => {
-            if place <= list.len() {
-                list.insert(place, item)?;
-            }
-            Ok(())
-        }
+/// The bits of the items before one in its word.
+fn bits_before(item: usize) -> u64 {
+    bit_of(item).wrapping_sub(1)
+}
+
+/// The bits of a word of those of items before one.
+fn kept_bits(words: &[u64], word: usize, before: usize) -> u64 {
+    match words.get(word) {
+        Some(bits) if word < before / WORD => *bits,
+        Some(bits) if word == before / WORD => *bits & bits_before(before),
+        _ => 0,
     }
 }
 
-/// Puts the places of items that pairs are of among others.
-fn insert_items(list: &mut Seq<usize>, pairs: &[Pair]) -> Result<(), AllocError> {
-    for pair in pairs {
-        if let Source::Item(item) = pair.source {
-            insert_place(list, item)?;
-        }
-    }
-    Ok(())
-}
-
-/// The rounds and the sum that a conflict comes from. `Odd` where there is none, or a number has more than 64 bits.
-fn reasons_of(alloc: Global, limits: &Limits) -> Result<(Seq<Round>, Seq<Pair>), Stop> {
+/// The rounds that a conflict comes from, while its sum is left in an explainer. `Odd` where there is none, or a number
+/// has more than 64 bits.
+fn explain(alloc: Global, limits: &Limits, explainer: &mut Explainer) -> Result<Seq<Round>, Stop> {
     match limits.conflict {
         None => Err(Stop::Odd),
         Some(Conflict::Item(item)) => {
-            let mut sum = Seq::new(alloc);
-            sum.push(Pair {
-                times: 1,
-                source: Source::Item(item),
-            })?;
-            Ok((Seq::new(alloc), sum))
+            explainer.explain_item(item)?;
+            Ok(Seq::new(alloc))
         }
-        Some(Conflict::Clash { spare }) => explained(alloc, limits, spare),
+        Some(Conflict::Clash { spare }) => explainer.explain(alloc, limits, spare),
     }
+}
+
+/// Pairs once more.
+fn copied(alloc: Global, pairs: &Seq<Pair>) -> Result<Seq<Pair>, Stop> {
+    let mut copy = Seq::new(alloc);
+    append(&mut copy, pairs.as_slice())?;
+    Ok(copy)
 }
 
 impl Trees {
@@ -161,11 +154,19 @@ impl Trees {
     /// Whether a tree uses an item from a place on. `Odd` where there is no such tree.
     pub fn uses_from(&self, number: usize, start: usize) -> Result<bool, Stop> {
         let tree = self.tree(number)?;
-        Ok(
-            items_in(&self.used, tree.used)
-                .last()
-                .is_some_and(|last| *last >= start),
-        )
+        let words = items_in(&self.used, tree.used);
+        let first = start / WORD;
+        if let Some(bits) = words.get(first) {
+            if *bits & !bits_before(start) != 0 {
+                return Ok(true);
+            }
+        }
+        for word in first..words.len() {
+            if word > first && words.get(word).is_some_and(|bits| *bits != 0) {
+                return Ok(true);
+            }
+        }
+        Ok(false)
     }
 
     /// Adds a tree.
@@ -184,25 +185,29 @@ impl Trees {
         path: &Path,
         limits: &Limits,
     ) -> Result<usize, Stop> {
-        let (rounds, sum) = reasons_of(alloc, limits)?;
-        let (rounds, sum) = tied(alloc, table, path, rounds, sum)?;
-        let (rounds, sum) = in_order(alloc, &rounds, &sum)?;
-        self.add_chain(alloc, &rounds, &sum)
+        let mut explainer = no_explainer(alloc);
+        mem::swap(&mut explainer, &mut self.explainer);
+        let rounds = explain(alloc, limits, &mut explainer)?;
+        let leaf = if rounds.is_empty() && !path.has_copies() {
+            self.add_chain(&rounds, explainer.pairs())?
+        } else {
+            let sum = copied(alloc, explainer.pairs())?;
+            let (rounds, sum) = tied(alloc, table, path, rounds, sum)?;
+            let (rounds, sum) = in_order(alloc, &rounds, &sum)?;
+            self.add_chain(&rounds, &sum)?
+        };
+        mem::swap(&mut explainer, &mut self.explainer);
+        Ok(leaf)
     }
 
     /// The number of a new leaf of rounds and a sum. An error where memory is refused.
-    fn add_chain(
-        &mut self,
-        alloc: Global,
-        rounds: &Seq<Round>,
-        pairs: &Seq<Pair>,
-    ) -> Result<usize, Stop> {
-        let mut places = Seq::new(alloc);
-        insert_items(&mut places, pairs.as_slice())?;
+    fn add_chain(&mut self, rounds: &Seq<Round>, pairs: &Seq<Pair>) -> Result<usize, Stop> {
+        let begun = self.used.len();
+        self.use_items(begun, pairs.as_slice())?;
         let mut units = (pairs.len() as u64).saturating_add(1);
         let start = self.rounds.len();
         for round in rounds.as_slice() {
-            insert_items(&mut places, round.pairs.as_slice())?;
+            self.use_items(begun, round.pairs.as_slice())?;
             units = units.saturating_add((round.pairs.len() as u64).saturating_add(1));
             let span = append(&mut self.pairs, round.pairs.as_slice())?;
             self.rounds.push(LeafRound {
@@ -217,7 +222,7 @@ impl Trees {
             },
             pairs: append(&mut self.pairs, pairs.as_slice())?,
         };
-        let used = append(&mut self.used, places.as_slice())?;
+        let used = self.used_from(begun);
         self.add(Tree {
             step,
             start: 0,
@@ -228,12 +233,49 @@ impl Trees {
         })
     }
 
-    /// The places before one that a tree uses are added to others.
-    fn collect(&self, number: usize, start: usize, places: &mut Seq<usize>) -> Result<(), Stop> {
-        for item in items_in(&self.used, self.tree(number)?.used) {
-            if *item < start {
-                insert_place(places, *item)?;
+    /// The bits from a place on.
+    fn used_from(&self, begun: usize) -> Span {
+        Span {
+            start: begun,
+            end: self.used.len(),
+        }
+    }
+
+    /// Says that an item is used, in the bits that begin at a place and are the last.
+    fn use_item(&mut self, begun: usize, item: usize) -> Result<(), AllocError> {
+        let place = begun.saturating_add(item / WORD);
+        for _ in self.used.len()..place.saturating_add(1) {
+            self.used.push(0)?;
+        }
+        if let Some(bits) = self.used.get(place) {
+            let more = *bits | bit_of(item);
+            put(&mut self.used, place, more);
+        }
+        Ok(())
+    }
+
+    /// Says that the items that pairs are of are used.
+    fn use_items(&mut self, begun: usize, pairs: &[Pair]) -> Result<(), AllocError> {
+        for pair in pairs {
+            if let Source::Item(item) = pair.source {
+                self.use_item(begun, item)?;
             }
+        }
+        Ok(())
+    }
+
+    /// The bit of a word of those items before one that one of two trees uses.
+    fn joint_bits(&self, spans: (Span, Span), word: usize, before: usize) -> u64 {
+        kept_bits(items_in(&self.used, spans.0), word, before)
+            | kept_bits(items_in(&self.used, spans.1), word, before)
+    }
+
+    /// Adds the bits of the items before one that one of two trees uses.
+    fn join_bits(&mut self, spans: (Span, Span), before: usize) -> Result<(), AllocError> {
+        let words = (before / WORD).saturating_add(1);
+        for word in 0..words {
+            let bits = self.joint_bits(spans, word, before);
+            self.used.push(bits)?;
         }
         Ok(())
     }
@@ -242,52 +284,49 @@ impl Trees {
     /// there are no such trees.
     pub fn add_two(
         &mut self,
-        alloc: Global,
         step: Step,
         item: Option<usize>,
         start: usize,
         below: (usize, usize),
     ) -> Result<usize, Stop> {
-        let mut places = Seq::new(alloc);
-        self.collect(below.0, start, &mut places)?;
-        self.collect(below.1, start, &mut places)?;
+        let first = self.tree(below.0)?;
+        let second = self.tree(below.1)?;
+        let begun = self.used.len();
+        self.join_bits((first.used, second.used), start)?;
         if let Some(place) = item {
-            insert_place(&mut places, place)?;
+            self.use_item(begun, place)?;
         }
-        let first = self.tree(below.0)?.units;
-        let second = self.tree(below.1)?.units;
-        let used = append(&mut self.used, places.as_slice())?;
+        let used = self.used_from(begun);
         self.add(Tree {
             step,
             start,
             first: below.0,
             second: below.1,
             used,
-            units: first.saturating_add(second).saturating_add(1),
+            units: first.units.saturating_add(second.units).saturating_add(1),
         })
     }
 
     /// The number of a new node that takes a quotient of the item at a place. `Odd` where there is no tree below it.
     pub fn add_one(
         &mut self,
-        alloc: Global,
         step: Step,
         item: usize,
         start: usize,
         below: usize,
     ) -> Result<usize, Stop> {
-        let mut places = Seq::new(alloc);
-        self.collect(below, start, &mut places)?;
-        insert_place(&mut places, item)?;
-        let used = append(&mut self.used, places.as_slice())?;
-        let units = self.tree(below)?.units.saturating_add(1);
+        let tree = self.tree(below)?;
+        let begun = self.used.len();
+        self.join_bits((tree.used, tree.used), start)?;
+        self.use_item(begun, item)?;
+        let used = self.used_from(begun);
         self.add(Tree {
             step,
             start,
             first: below,
             second: below,
             used,
-            units,
+            units: tree.units.saturating_add(1),
         })
     }
 }

@@ -1,10 +1,9 @@
 //! What is taken apart next.
-use crate::ends::Truth;
-use crate::looks::look_at;
 use crate::refuting::{Search, Waiting};
 use conflict_tables::{
-    Form, Opened, Stop, at, sides_of, way_of, without_quotient, without_quotient_by,
+    Form, Opened, Stop, at, put, sides_of, way_of, without_quotient, without_quotient_by,
 };
+use conflict_truths::{Truth, activate, wake};
 
 /// A step of the search.
 #[derive(Clone, Copy)]
@@ -51,24 +50,12 @@ impl Move {
     }
 }
 
-/// What is known of a waiting formula.
-#[derive(Clone, Copy)]
-enum Urgency {
-    /// It holds in any case.
-    Idle,
-    /// Both sides may hold.
-    Open(Move),
-    /// Only one side may hold.
-    Forced(Move),
-    /// It cannot hold, or it has a quotient.
-    Now(Move),
-}
-
-/// The best steps so far: the oldest that is forced, and the most often used of the others, of these the newest.
+/// The best formulas so far: the oldest of which only one side may hold, and the most often used of the others, of
+/// these the newest.
 #[derive(Clone, Copy)]
 struct Best {
-    forced: Option<Move>,
-    open: Option<Move>,
+    forced: Option<(usize, bool)>,
+    open: Option<usize>,
     count: u32,
 }
 
@@ -87,104 +74,125 @@ fn own_opened(search: &mut Search, waiting: Waiting, variable: usize) -> Result<
 }
 
 /// Taking a quotient.
-fn quotient_move(search: &mut Search, place: usize, waiting: Waiting) -> Result<Urgency, Stop> {
+fn quotient_move(search: &mut Search, place: usize) -> Result<Move, Stop> {
+    let waiting = at(&search.waiting, place)?;
     let opened = without_quotient(&mut search.table, waiting.form)?;
     let own = own_opened(search, waiting, opened.variable)?;
-    Ok(Urgency::Now(Move::Quotient {
+    Ok(Move::Quotient {
         place,
         item: waiting.item,
         opened,
         own,
-    }))
+    })
 }
 
 /// Taking apart a formula, that side first.
-fn case_move(
-    search: &mut Search,
-    place: usize,
-    waiting: Waiting,
-    second_first: bool,
-) -> Result<Move, Stop> {
-    let sides = sides_of(&mut search.table, waiting.form)?;
+fn case_move(search: &Search, place: usize, second_first: bool) -> Result<Move, Stop> {
+    let waiting = at(&search.waiting, place)?;
     Ok(Move::Case {
         place,
         item: waiting.item,
         form: waiting.form,
-        sides,
+        sides: waiting.sides,
         second_first,
     })
 }
 
-fn look(search: &mut Search, form: usize) -> Result<Truth, Stop> {
-    look_at(
+/// Whether a formula is to be taken out of a sum with a quotient.
+fn is_quotient(search: &Search, form: usize) -> Result<bool, Stop> {
+    Ok(matches!(search.table.form(form)?, Form::Quotient(..)))
+}
+
+/// Keeps up the formula that waits at a place.
+fn keep_up(search: &mut Search, place: usize) -> Result<(), Stop> {
+    let waiting = at(&search.waiting, place)?;
+    let late = search.is_under_way();
+    activate(
+        search.alloc,
         &mut search.table,
         &mut search.limits,
-        &mut search.looks,
-        form,
-    )
+        &mut search.truths,
+        waiting.form,
+        late,
+    )?;
+    let quotient = is_quotient(search, waiting.form)?;
+    let sides = if quotient {
+        (waiting.form, waiting.form)
+    } else {
+        sides_of(&mut search.table, waiting.form)?
+    };
+    let kept = Waiting {
+        sides,
+        quotient,
+        ..waiting
+    };
+    put(&mut search.waiting, place, kept);
+    search.kept = place.saturating_add(1);
+    Ok(())
 }
 
-/// What is known of a formula with two sides.
-fn urgency_of_sides(search: &mut Search, place: usize, waiting: Waiting) -> Result<Urgency, Stop> {
-    let sides = sides_of(&mut search.table, waiting.form)?;
-    if look(search, sides.0)? == Truth::False {
-        return Ok(Urgency::Forced(case_move(search, place, waiting, true)?));
-    }
-    if look(search, sides.1)? == Truth::False {
-        return Ok(Urgency::Forced(case_move(search, place, waiting, false)?));
-    }
-    Ok(Urgency::Open(case_move(search, place, waiting, false)?))
-}
-
-/// What is known of the formula that waits at a place.
-fn urgency_at(search: &mut Search, place: usize) -> Result<Urgency, Stop> {
-    let waiting = at(&search.waiting, place)?;
+/// Looks at the formula that waits at a place. Whether it is taken apart at once.
+fn look_at(search: &Search, place: usize, best: &mut Best) -> Result<bool, Stop> {
+    let Some(waiting) = search.waiting.get(place) else {
+        return Ok(false);
+    };
     if waiting.taken {
-        return Ok(Urgency::Idle);
+        return Ok(false);
     }
-    let truth = look(search, waiting.form)?;
+    let truth = search.truths.of_form(waiting.form);
     if truth == Truth::True {
-        return Ok(Urgency::Idle);
+        return Ok(false);
     }
-    if let Form::Quotient(..) = search.table.form(waiting.form)? {
-        return quotient_move(search, place, waiting);
+    if waiting.quotient || truth == Truth::False {
+        return Ok(true);
     }
-    if truth == Truth::False {
-        return Ok(Urgency::Now(case_move(search, place, waiting, false)?));
+    if best.forced.is_some() {
+        return Ok(false);
     }
-    urgency_of_sides(search, place, waiting)
+    if search.truths.of_form(waiting.sides.0) == Truth::False {
+        best.forced = Some((place, true));
+    } else if search.truths.of_form(waiting.sides.1) == Truth::False {
+        best.forced = Some((place, false));
+    } else {
+        let count = search.count_of(waiting.form);
+        if count >= best.count {
+            best.open = Some(place);
+            best.count = count;
+        }
+    }
+    Ok(false)
 }
 
-/// The form that a step takes apart counts so often.
-fn count_for(search: &Search, step: Move) -> u32 {
-    match step {
-        Move::Case { form, .. } => search.count_of(form),
-        _ => 0,
+/// The step that takes the formula apart that waits at a place and cannot hold, or has a quotient.
+fn move_at(search: &mut Search, place: usize) -> Result<Move, Stop> {
+    if at(&search.waiting, place)?.quotient {
+        quotient_move(search, place)
+    } else {
+        case_move(search, place, false)
     }
 }
 
 /// The step that takes a waiting formula apart.
 pub fn waiting_move(search: &mut Search) -> Result<Option<Move>, Stop> {
+    wake(&search.table, &mut search.limits, &mut search.truths)?;
     let mut best = Best {
         forced: None,
         open: None,
         count: 0,
     };
     for place in 0..search.waiting.len() {
-        match urgency_at(search, place)? {
-            Urgency::Idle => {}
-            Urgency::Now(step) => return Ok(Some(step)),
-            Urgency::Forced(step) => best.forced = best.forced.or(Some(step)),
-            Urgency::Open(step) => {
-                let count = count_for(search, step);
-                if count >= best.count {
-                    best.open = Some(step);
-                    best.count = count;
-                }
-            }
+        if place >= search.kept {
+            keep_up(search, place)?;
+        }
+        if look_at(search, place, &mut best)? {
+            return Ok(Some(move_at(search, place)?));
         }
     }
-    Ok(best.forced.or(best.open))
+    match (best.forced, best.open) {
+        (Some((place, second_first)), _) => Ok(Some(case_move(search, place, second_first)?)),
+        (None, Some(place)) => Ok(Some(case_move(search, place, false)?)),
+        (None, None) => Ok(None),
+    }
 }
 
 /// The low limit of a variable, and how much higher the high one is.

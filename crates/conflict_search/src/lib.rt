@@ -4,8 +4,6 @@
 #![tactic(auto)]
 
 mod branching;
-mod ends;
-mod looks;
 mod proposing;
 mod refuting;
 mod writing;

@@ -1,13 +1,13 @@
 //! The search itself, one turn after the other: down to a conflict, and up with the tree that closes it. A step whose
 //! additions the tree below does not use is dropped, and its other side is not searched.
 use crate::branching::{Move, split_move, waiting_move};
-use crate::looks::{Looks, no_looks};
 use conflict_cuts::eliminate;
 use conflict_limits::{
     Limits, LimitsMark, Path, PathMark, Quotient, Step, Trees, no_limits, no_path, no_trees,
     propagate,
 };
 use conflict_tables::{Form, Opened, Stop, Table, put};
+use conflict_truths::{Truths, TruthsMark, no_truths};
 use obligations::Variable;
 use std::alloc::{AllocError, Global};
 use unity_base::Seq;
@@ -19,13 +19,15 @@ const DEPTH: usize = 960;
 const LONG: u64 = 16;
 
 /// A waiting formula: the place of its item, the formula itself, that with copies of quotients, and whether it was
-/// taken apart.
+/// taken apart; where it is kept up, its sides, or that it has a quotient.
 #[derive(Clone, Copy)]
 pub struct Waiting {
     pub item: usize,
     pub form: usize,
     pub own: usize,
     pub taken: bool,
+    pub sides: (usize, usize),
+    pub quotient: bool,
 }
 
 /// A formula in which each quotient has its first variable, and the same with copies.
@@ -39,7 +41,7 @@ struct Settled {
 #[derive(Clone, Copy)]
 struct Mark {
     limits: LimitsMark,
-    looks: usize,
+    truths: TruthsMark,
     path: PathMark,
     waiting: usize,
     variables: usize,
@@ -59,10 +61,12 @@ pub struct Search {
     pub alloc: Global,
     pub table: Table,
     pub limits: Limits,
-    pub looks: Looks,
+    pub truths: Truths,
     pub trees: Trees,
     pub path: Path,
     pub waiting: Seq<Waiting>,
+    /// How many of these are kept up.
+    pub kept: usize,
     /// The variables, and those of quotients that were taken, without copies.
     pub variables: Seq<usize>,
     /// How many variables the obligation has.
@@ -100,10 +104,11 @@ pub fn new_search(
         alloc,
         table,
         limits: no_limits(alloc, steps)?,
-        looks: no_looks(alloc),
+        truths: no_truths(alloc),
         trees: no_trees(alloc),
         path: no_path(alloc),
         waiting: Seq::new(alloc),
+        kept: 0,
         variables: Seq::new(alloc),
         own,
         counts: Seq::new(alloc),
@@ -134,6 +139,8 @@ impl Search {
             form: settled.form,
             own: settled.own,
             taken: false,
+            sides: (settled.form, settled.form),
+            quotient: false,
         })?;
         Ok(())
     }
@@ -213,7 +220,7 @@ impl Search {
     fn mark(&self) -> Mark {
         Mark {
             limits: self.limits.mark(),
-            looks: self.looks.mark(),
+            truths: self.truths.mark(),
             path: self.path.mark(),
             waiting: self.waiting.len(),
             variables: self.variables.len(),
@@ -221,10 +228,11 @@ impl Search {
     }
 
     fn take_back(&mut self, mark: Mark) {
-        self.limits.take_back(mark.limits);
-        self.looks.take_back(mark.looks);
+        self.limits.take_back(&self.table, mark.limits);
+        self.truths.take_back(mark.truths);
         self.path.take_back(mark.path);
         self.waiting.truncate(mark.waiting);
+        self.kept = self.kept.min(mark.waiting);
         self.variables.truncate(mark.variables);
     }
 
@@ -358,12 +366,11 @@ impl Search {
             Move::Case { item, form, .. } => {
                 let step = Step::Case { item, form };
                 self.trees
-                    .add_two(self.alloc, step, Some(item), start, (first, second))?
+                    .add_two(step, Some(item), start, (first, second))?
             }
             Move::Split { variable, at, .. } => {
                 let step = Step::Split { variable, at };
-                self.trees
-                    .add_two(self.alloc, step, None, start, (first, second))?
+                self.trees.add_two(step, None, start, (first, second))?
             }
             Move::Quotient {
                 item,
@@ -376,7 +383,7 @@ impl Search {
                     variable: own.variable,
                     rest: opened.rest,
                 };
-                self.trees.add_one(self.alloc, step, item, start, first)?
+                self.trees.add_one(step, item, start, first)?
             }
         };
         Ok(Going::Up(tree))
@@ -391,8 +398,17 @@ impl Search {
         Ok(Some(self.close_side(frame, tree)?))
     }
 
+    /// Whether the path has steps.
+    pub fn is_under_way(&self) -> bool {
+        !self.frames.is_empty()
+    }
+
     /// Adds the facts of the ranges, and settles the root.
     fn begin_root(&mut self, vs: &[Variable], root: usize) -> Result<(), Stop> {
+        for (variable, own) in vs.iter().enumerate() {
+            let size = own.range.lo.unsigned_abs().max(own.range.hi.unsigned_abs());
+            self.limits.know_size(variable, size)?;
+        }
         for (variable, own) in vs.iter().enumerate() {
             self.variables.push(variable)?;
             let low = self.table.low_bound(variable, own.range.lo)?;
@@ -410,7 +426,7 @@ impl Search {
         }
         self.take_back(Mark {
             limits: LimitsMark::ROOT,
-            looks: 0,
+            truths: TruthsMark::ROOT,
             path: PathMark::ROOT,
             waiting: 0,
             variables: 0,
