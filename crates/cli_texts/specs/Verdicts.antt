@@ -25,11 +25,15 @@ step_line words r =
     word_text words r.program ++ (codes "." ++ (word_text words r.name ++ kind_text r.kind r.bound))
 
 -- how many steps and obligations were accepted, and then each step
+abbrev pub accepted_lines : List (List ℕ) → List Record → ℕ → List ℕ
+accepted_lines words records obligations =
+    codes "accepted " ++ (decimal (length records) ++ (codes " steps "
+    ++ (decimal obligations ++ (codes " obligations" ++ 10 ∷ []))))
+    ++ flat_map (step_line words) records
+
+-- those of a plan
 abbrev pub accepted_text : List (List ℕ) → Plan → List ℕ
-accepted_text words plan =
-    codes "accepted " ++ (decimal (length plan.records) ++ (codes " steps "
-    ++ (decimal (length plan.obligations) ++ (codes " obligations" ++ 10 ∷ []))))
-    ++ flat_map (step_line words) plan.records
+accepted_text words plan = accepted_lines words plan.records (length plan.obligations)
 
 -- ` PROGRAM.STEP`; ` PROGRAM` where no step is to be told; nothing where no program is
 abbrev pub place_text : List (List ℕ) → Option ℕ → Option ℕ → List ℕ

@@ -6,7 +6,7 @@ ghost use Rattle.cli_texts.specs.Verdicts as verdict;
 
 use case_tables::{Kind, number};
 use fair_rounds::Record;
-use proof_plans::{Plan, StepFault};
+use proof_plans::StepFault;
 use std::alloc::{AllocError, Global};
 use unity_base::Seq;
 
@@ -65,17 +65,21 @@ fn push_steps(
 }
 
 /// `accepted S steps O obligations`, and then a line `PROGRAM.STEP KIND` for each step, of a leads-to with its
-/// bound.
+/// bound: of steps with these records, which left so many obligations.
 ///
 /// The error is that memory was refused.
-pub fn accepted(alloc: Global, words: &[Seq<u8>], plan: &Plan) -> Result<Vec<u8>, AllocError>
-    ensures { IfOk result (λ text. text.items ≡ verdict.accepted_text words.now plan.now) }
+pub fn accepted(
+    alloc: Global,
+    words: &[Seq<u8>],
+    records: &[Record],
+    obligations: u64,
+) -> Result<Vec<u8>, AllocError>
+    ensures { IfOk result (λ text. text.items ≡ verdict.accepted_lines words.now records.now obligations) }
 {
-    let steps = plan.records.len();
-    let obligations = plan.obligations.len();
+    let steps = records.len();
     let first = format!(in alloc; "accepted {steps} steps {obligations} obligations\n")?;
     let mut text = first.into_bytes();
-    push_steps(alloc, words, plan.records.as_slice(), &mut text)?;
+    push_steps(alloc, words, records, &mut text)?;
     Ok(text)
 }
 

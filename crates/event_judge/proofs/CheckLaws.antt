@@ -7,14 +7,13 @@ use Rattle.obligations.specs.declared.certificates.Node.{Node}
 use Rattle.obligations.specs.Obligations.{IsObligation}
 use Rattle.obligations.specs.Opening.{first_branch}
 use Rattle.event_checker.specs.declared.errors.CertError.{CertError}
-use Rattle.event_checker.specs.Checkers.{FailsReading}
-use Rattle.certificate_rules.specs.Refutation.{allowing, walk_from_root}
-use Rattle.certificate_rules.specs.Trees.{is_whole}
 use Rattle.event_checker.specs.declared.checker.Checker.{Checker}
-use Rattle.event_checker.specs.Checkers.{Judges, CheckerStandsFor}
+use Rattle.event_checker.specs.Checkers.{CheckerStandsFor, FailsReading}
 use Rattle.event_checker.specs.Events.{events_of, nodes_from}
 use Rattle.event_checker.specs.Readings.{ReadingStands}
 use Rattle.event_checker.proofs.NodeLaws.{events-tell-nodes}
+use Rattle.certificate_rules.specs.Refutation.{allowing, walk_from_root}
+use Rattle.certificate_rules.specs.Trees.{is_whole}
 
 -- the events of the nodes that were told
 told-again : (levels : ℕ) (c : Checker) (o : Obligation) (es : List CertEvent) → CheckerStandsFor levels c o es →
@@ -25,24 +24,24 @@ told-again levels c o es s = record {
       (sym (events-tell-nodes (nodes_from [] es))) s.reading;
 }
 
-module _ (c : Checker) (v : Result (Unit {0}) CertError) (judges : (levels : ℕ) (o : Obligation) (nodes : List Node) →
-    IsObligation o → CheckerStandsFor levels c o (events_of nodes) → is_whole nodes 1 ≡ true →
-    Judges levels o nodes v) where
-  walked : (levels : ℕ) (o : Obligation) (es : List CertEvent) → IsObligation o → CheckerStandsFor levels c o es →
-      is_whole (nodes_from [] es) 1 ≡ true → MatchResult v (λ u. walk_from_root levels o (nodes_from [] es) ≡ Ok [])
-      (FailsReading (walk_from_root levels o (nodes_from [] es)))
-  walked levels o es is s whole = (judges levels o (nodes_from [] es) is (told-again levels c o es s) whole).walked
+-- what a checker's answer says of this obligation and these nodes
+abbrev pub Answers : ℕ → Obligation → List Node → Result (Unit {0}) CertError → Type 0
+Answers levels o nodes v = MatchResult v (λ u. walk_from_root levels o nodes ≡ Ok [])
+    (FailsReading (walk_from_root levels o nodes))
 
+module _ (c : Checker) (v : Result (Unit {0}) CertError) (answers : (levels : ℕ) (o : Obligation)
+    (nodes : List Node) → IsObligation o → CheckerStandsFor levels c o (events_of nodes) → is_whole nodes 1 ≡ true →
+    Answers levels o nodes v) where
   pub passes : (u : Unit {0}) → v ≡ Ok u → (levels : ℕ) (o : Obligation) (es : List CertEvent) → IsObligation o →
       CheckerStandsFor levels c o es → is_whole (nodes_from [] es) 1 ≡ true →
       walk_from_root levels o (nodes_from [] es) ≡ Ok []
   passes u e levels o es is s whole =
-      subst (λ v. MatchResult v (λ u. walk_from_root levels o (nodes_from [] es) ≡ Ok [])
-      (FailsReading (walk_from_root levels o (nodes_from [] es)))) e (walked levels o es is s whole)
+      subst (Answers levels o (nodes_from [] es)) e
+      (answers levels o (nodes_from [] es) is (told-again levels c o es s) whole)
 
   pub fails : (code : Code) (node : ℕ) → v ≡ Err (CertError.Fault code node) → (levels : ℕ) (o : Obligation)
       (es : List CertEvent) → IsObligation o → CheckerStandsFor levels c o es → is_whole (nodes_from [] es) 1 ≡ true →
       walk_from_root levels o (nodes_from [] es) ≡ Err (code, node)
   fails code node e levels o es is s whole =
-      subst (λ v. MatchResult v (λ u. walk_from_root levels o (nodes_from [] es) ≡ Ok [])
-      (FailsReading (walk_from_root levels o (nodes_from [] es)))) e (walked levels o es is s whole)
+      subst (Answers levels o (nodes_from [] es)) e
+      (answers levels o (nodes_from [] es) is (told-again levels c o es s) whole)

@@ -1,130 +1,118 @@
 -- The verdict of a judge that was told all certificates.
-use Rattle.std.proofs.Common.{◌≡◌, ℕ, ◌+◌, ◌<◌, ◌≤◌, nat_lt, cond, Bool, true, false, List, [], ◌++◌, length, slice_get}
-use Rattle.std.proofs.Common.{Option, Some, None, Result, Ok, Err, refl, sym, ap, ◌∙◌, subst, arith, append-nil}
+use Rattle.std.proofs.Common.{◌≡◌, ℕ, ◌+◌, ◌-◌, ◌≤◌, nat_lt, cond, Bool, false, List, [], ◌∷◌, length, reverse, slice_get}
+use Rattle.std.proofs.Common.{Option, Some, None, Ok, Err, refl, sym, ap, ◌∙◌, subst, arith, append-nil}
+use Rattle.std.proofs.lemmas.Bool.{le-ltb}
+use Rattle.std.proofs.lemmas.List.{reverse-reverse}
 use Rattle.std.proofs.lemmas.Option.{slice_get_past}
 use Rattle.case_tables.specs.declared.code_table.Code.{Code}
 use Rattle.core_terms.specs.declared.documents.CDocument.{CDocument}
+use Rattle.core_terms.specs.declared.documents.CProof.{CProof}
 use Rattle.obligations.specs.declared.branches.Obligation.{Obligation}
 use Rattle.obligations.specs.declared.certificates.Cert.{Cert}
 use Rattle.event_checker.specs.declared.checker.Checker.{Checker}
 use Rattle.fair_rounds.specs.declared.records.Record.{Record}
+use Rattle.proof_plans.specs.from_rules_steps.Starts.{document_seen}
 use Rattle.proof_plans.specs.declared.plans.Plan.{Plan}
 use Rattle.proof_plans.specs.declared.plans.StepFault.{StepFault}
 use Rattle.proof_plans.specs.Giving.{AreWhole}
-use Rattle.proof_plans.specs.Planning.{reach_from}
-use Rattle.proof_plans.specs.Reaching.{Reach, reach_of, reached}
-use Rattle.proof_plans.specs.Verdicts.{then_by, most_levels, refutation_fault, surplus_fault, verdict_of}
-use Rattle.reached_verdicts.specs.ByReach.{VerdictByReach, ended, verdict_from}
-use Rattle.proof_plans.proofs.PlanLaws.{reached_from}
+use Rattle.proof_plans.specs.Verdicts.{last_verdict, most_levels, proofs_verdict, refutation_fault, refuted_by}
+use Rattle.proof_plans.specs.Verdicts.{surplus_fault, then_by, verdict_of}
+use Rattle.proof_plans.proofs.Equations.{proofs-none, refuted-none}
+use Rattle.step_plans.specs.declared.summaries.Summary.{Summary}
+use Rattle.step_plans.specs.Planning.{left_by, records_of}
+use Rattle.step_plans.specs.Summaries.{summary_of, summed}
 use Rattle.event_judge.specs.declared.judge.Judge.{Judge}
 use Rattle.event_judge.specs.Told.{Told}
-use Rattle.event_judge.specs.Judges.{shown_by, names_in, IsLeftBy, IsAtObligation, Judging, Failed, JudgeStandsAt}
-use Rattle.event_judge.specs.Judges.{JudgeStands}
-use Rattle.event_judge.proofs.ShownLaws.{shown-missing, shown-end}
-use Rattle.event_judge.proofs.StandLaws.{got-at, below-min}
+use Rattle.event_judge.specs.Judges.{BeginsAs, Failed, IsWaiting, JudgeStands, JudgeStandsAt, Judging}
+use Rattle.event_judge.proofs.LeftLaws.{refuted-missing}
 
-same-plan : (p q : Plan) → p.records ≡ q.records → p.obligations ≡ q.obligations → p.owner ≡ q.owner → p ≡ q
-same-plan p q rs os ws =
-    ap (λ (r : List Record). record { records = r; obligations = p.obligations; owner = p.owner }) rs
-    ∙ ap (λ (o : List Obligation). record { records = q.records; obligations = o; owner = p.owner }) os
-    ∙ ap (λ (w : List ℕ). record { records = q.records; obligations = q.obligations; owner = w }) ws
-
-module _ (law : VerdictByReach) (d : CDocument) (j : Judge) (certs : List Cert) (whole : AreWhole certs) where
+module _ (d : CDocument) (j : Judge) (certs : List Cert) (whole : AreWhole certs) where
   -- what was told
   abbrev all : Told
   all = record { certs = certs; part = None }
 
-  verdict-is : (r : Reach) → reach_of d ≡ r →
-      verdict_of d certs ≡ then_by (shown_by d certs (reached r)) (λ done. ended certs r)
-  verdict-is r e = law d certs ∙ ap (λ (r : Reach). verdict_from (most_levels d.version) certs (names_in d) r) e
-
-  no-more : (plan : Plan) (v : Result (Unit {0}) StepFault) → shown_by d (certs ++ []) plan ≡ v →
-      shown_by d certs plan ≡ v
-  no-more plan v e = ap (λ (cs : List Cert). shown_by d cs plan) (sym (append-nil certs)) ∙ e
+  begins : BeginsAs all certs
+  begins = record { more = []; parts = sym (append-nil certs); count = omega arith; whole = whole }
 
   pub finish-failed : (fault : StepFault) → j.failed ≡ Some fault → JudgeStands d j all → verdict_of d certs ≡ Err fault
   finish-failed fault e s =
-      let f : Failed d j all fault = subst (λ x. JudgeStandsAt x d j all) e s in
-      verdict-is (reach_of d) refl
-      ∙ ap (λ r. then_by r (λ done. ended certs (reach_of d)))
-      (no-more (reached (reach_of d)) (Err fault) (f.fails whole []))
+      let f : Failed d j all fault = subst (λ x. JudgeStandsAt x d j all) e s in f.fails certs begins
 
-  judging : j.failed ≡ None → JudgeStands d j all → Judging d j all
-  judging e s = subst (λ x. JudgeStandsAt x d j all) e s
+  -- no certificate is open
+  waiting : j.failed ≡ None → JudgeStands d j all → IsWaiting d j all
+  waiting e s = by_checker j.checker (subst (λ x. JudgeStandsAt x d j all) e s)
+    where
+      by_checker : (x : Option Checker) → Judging x d j all → IsWaiting d j all
+      by_checker None w = w
+      by_checker (Some c) k = let no = k.told in absurd (cc)
 
-  obligations-are : (plan : Plan) (x : Option Checker) → IsAtObligation x j plan all →
-      j.plan.obligations ≡ plan.obligations
-  obligations-are plan None w = w.obligations
-  obligations-are plan (Some c) k = let no = k.told in absurd (cc)
-
-  pub finish-missing : (fault : StepFault) → j.failed ≡ None → j.judged < length j.plan.obligations →
-      ((made : Record) → IsLeftBy j.plan j.judged made →
-      fault ≡ refutation_fault made.program made.name j.judged Code.CertMissing) → JudgeStands d j all →
+  pub finish-missing : (fault : StepFault) → j.failed ≡ None → (j.left ≡ [] → ⊥) →
+      ((before : ℕ) → j.number ≡ before + 1 →
+      fault ≡ refutation_fault j.program j.step before Code.CertMissing) → JudgeStands d j all →
       verdict_of d certs ≡ Err fault
-  finish-missing fault e less named s =
-      let g : Judging d j all = judging e s in
-      let same = obligations-are g.plan j.checker g.at in
-      let long = ap (λ (xs : List Obligation). length xs) same in
-      let below : j.judged < length g.plan.obligations = omega (arith, long, less) in
-      let count = below-min (length g.plan.obligations) (length certs) j.judged g.judged below in
-      let o = got-at g.plan.obligations j.judged below in
-      let n = g.planned.named j.judged below in
-      let left : IsLeftBy j.plan j.judged n.made = record {
-        place = n.left.place;
-        owner = ap (λ (ws : List ℕ). slice_get ws j.judged) g.owner ∙ n.left.owner;
-        record_is = ap (λ (rs : List Record). slice_get rs n.left.place) g.records ∙ n.left.record_is;
-      } in
-      let past : slice_get (certs ++ []) j.judged ≡ None =
-      ap (λ (cs : List Cert). slice_get cs j.judged) (append-nil certs)
-      ∙ slice_get_past certs j.judged (omega (arith, count)) in
-      let shown : shown_by d certs g.plan ≡ Err fault = no-more g.plan (Err fault)
-      (g.shown whole [] ∙ shown-missing d g.plan (certs ++ []) j.judged o.0 o.1 n past
-      ∙ ap (λ (f : StepFault). Err f) (sym (named n.made left))) in
-      verdict-is (reach_from g.plan j.stopped) g.reach
-      ∙ ap (λ p. then_by (shown_by d certs p) (λ done. ended certs (reach_from g.plan j.stopped)))
-      (reached_from g.plan j.stopped)
-      ∙ ap (λ r. then_by r (λ done. ended certs (reach_from g.plan j.stopped))) shown
+  finish-missing fault e more named s =
+      let w = waiting e s in
+      let l = w.leaves in
+      l.verdict certs begins
+      ∙ ap (λ v. then_by v (λ done. then_by (proofs_verdict (document_seen d) certs (left_by d j.planner) l.plan)
+      (last_verdict certs))) (missing (reverse j.left) (λ none. more (turned-none none)))
+      ∙ ap (λ (f : StepFault). Err f) (sym (named (length certs) l.number))
+    where
+      turned-none : reverse j.left ≡ [] → j.left ≡ []
+      turned-none none = sym (reverse-reverse j.left) ∙ ap (λ (os : List Obligation). reverse os) none
 
-  -- every obligation is refuted
-  over : (g : Judging d j all) → length j.plan.obligations ≤ j.judged → shown_by d certs g.plan ≡ Ok tt
-  over g most =
-      let long = ap (λ (xs : List Obligation). length xs) (obligations-are g.plan j.checker g.at) in
-      no-more g.plan (Ok tt)
-      (g.shown whole [] ∙ shown-end d g.plan (certs ++ []) j.judged (omega (arith, long, most)))
+      missing : (os : List Obligation) → (os ≡ [] → ⊥) →
+          refuted_by (most_levels d.version) certs j.program j.step (length certs) os
+          ≡ Err (refutation_fault j.program j.step (length certs) Code.CertMissing)
+      missing [] some = absurd (some refl)
+      missing (o ∷ os) some = refuted-missing (most_levels d.version) certs j.program j.step (length certs) o os
+          (slice_get_past certs (length certs) (omega arith))
 
-  pub finish-stopped : (fault : StepFault) → j.failed ≡ None → length j.plan.obligations ≤ j.judged →
-      j.stopped ≡ Some fault → JudgeStands d j all → verdict_of d certs ≡ Err fault
-  finish-stopped fault e most stop s =
-      let g : Judging d j all = judging e s in
-      verdict-is (reach_from g.plan (Some fault)) (g.reach ∙ ap (reach_from g.plan) stop)
-      ∙ ap (λ r. then_by r (λ done. ended certs (reach_from g.plan (Some fault)))) (over g most)
+  -- no step is left either
+  accepted-with : (w : IsWaiting d j all) → j.left ≡ [] →
+      (verdict_of d certs ≡ Ok w.leaves.plan) × (length w.leaves.plan.obligations ≡ length certs)
+  accepted-with w empty =
+      let l = w.leaves in
+      let n = length certs in
+      let long = l.count in
+      let zero = ap (λ (os : List Obligation). length (reverse os)) empty in
+      let count : length l.plan.obligations ≡ n = counted l.plan (reverse j.left) long zero in (
+        l.verdict certs begins
+            ∙ ap (λ (os : List Obligation). then_by (refuted_by (most_levels d.version) certs j.program j.step n
+            (reverse os)) (λ done. then_by (proofs_verdict (document_seen d) certs (left_by d j.planner) l.plan)
+            (last_verdict certs))) empty
+            ∙ ap (λ v. then_by v (λ done. then_by (proofs_verdict (document_seen d) certs (left_by d j.planner) l.plan)
+            (last_verdict certs))) (refuted-none (most_levels d.version) certs j.program j.step n)
+            ∙ ap (λ (ps : List CProof). then_by (proofs_verdict (document_seen d) certs ps l.plan)
+            (last_verdict certs)) (w.over empty)
+            ∙ ap (λ v. then_by v (last_verdict certs)) (proofs-none (document_seen d) certs l.plan)
+            ∙ ap (λ (m : ℕ). cond (nat_lt m n) (Err (surplus_fault m)) (Ok l.plan)) count
+            ∙ ap (λ (b : Bool). cond b (Err (surplus_fault n)) (Ok l.plan)) (le-ltb n n (omega arith)),
+        count,
+      )
+    where
+      counted : (plan : Plan) (os : List Obligation) → length plan.obligations ≡ length certs + length os →
+          length os ≡ 0 → length plan.obligations ≡ length certs
+      counted plan os long zero = omega (arith, long, zero)
 
-  -- no step failed either
-  last : (g : Judging d j all) → length j.plan.obligations ≤ j.judged → j.stopped ≡ None → (b : Bool) →
-      j.surplus ≡ b →
-      verdict_of d certs ≡ cond b (Err (surplus_fault (length g.plan.obligations))) (Ok g.plan)
-  last g most stop b e =
-      let n = length g.plan.obligations in
-      let none : length certs ≡ length certs + 0 = omega arith in
-      let test : nat_lt n (length certs) ≡ b = ap (nat_lt n) none ∙ sym g.surplus ∙ e in
-      verdict-is (reach_from g.plan None) (g.reach ∙ ap (reach_from g.plan) stop)
-      ∙ ap (λ r. then_by r (λ done. ended certs (reach_from g.plan None))) (over g most)
-      ∙ ap (λ (b : Bool). cond b (Err (surplus_fault n)) (Ok g.plan)) test
+  -- the plan, and what is kept of it
+  pub record IsAccepted (summary : Summary) : Type 0 where
+    pub plan : Plan
+    pub verdict : verdict_of d certs ≡ Ok plan
+    pub summary_is : summary_of plan ≡ summary
 
-  pub finish-surplus : (fault : StepFault) → j.failed ≡ None → length j.plan.obligations ≤ j.judged →
-      j.stopped ≡ None → j.surplus ≡ true → fault ≡ surplus_fault (length j.plan.obligations) → JudgeStands d j all →
-      verdict_of d certs ≡ Err fault
-  finish-surplus fault e most stop more is s =
-      let g : Judging d j all = judging e s in
-      let same = obligations-are g.plan j.checker g.at in
-      last g most stop true more
-      ∙ ap (λ (os : List Obligation). Err (surplus_fault (length os))) (sym same)
-      ∙ ap (λ (f : StepFault). Err f) (sym is)
-
-  pub finish-accepted : j.failed ≡ None → length j.plan.obligations ≤ j.judged → j.stopped ≡ None →
-      j.surplus ≡ false → JudgeStands d j all → verdict_of d certs ≡ Ok j.plan
-  finish-accepted e most stop few s =
-      let g : Judging d j all = judging e s in
-      last g most stop false few
-      ∙ ap (λ (p : Plan). Ok p)
-      (sym (same-plan j.plan g.plan g.records (obligations-are g.plan j.checker g.at) g.owner))
+  pub finish-accepted : (count : ℕ) → j.failed ≡ None → j.left ≡ [] → count ≡ j.number - 1 → JudgeStands d j all →
+      IsAccepted (record { records = records_of j.planner; obligations = count })
+  finish-accepted count e empty number s =
+      let w = waiting e s in
+      let l = w.leaves in
+      let a = accepted-with w empty in
+      let first = a.1 in
+      let second = l.number in
+      let same : length l.plan.obligations ≡ count = omega (arith, first, second, number) in record {
+        plan = l.plan;
+        verdict = a.0;
+        summary_is =
+            ap (λ (rs : List Record). record { records = rs; obligations = length l.plan.obligations }) (sym l.records)
+            ∙ ap (λ (n : ℕ). record { records = records_of j.planner; obligations = n }) same;
+      }

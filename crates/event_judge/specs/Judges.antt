@@ -1,107 +1,82 @@
 -- What a judge of a document stands for.
-use Rattle.std.specs.Prelude.{◌≡◌, ℕ, ◌<◌, nat_lt, min, List, ◌++◌, length, drop, slice_get, slice_set, All}
-use Rattle.std.specs.Prelude.{Option, Some, None, Result, Err}
+use Rattle.std.specs.Prelude.{◌≡◌, ℕ, ◌+◌, ◌≤◌, List, [], ◌∷◌, ◌++◌, length, reverse, Option, Some, None, Err, All}
 use Rattle.unity_base.specs.declared.events.CertEvent.{CertEvent}
 use Rattle.core_terms.specs.declared.documents.CDocument.{CDocument}
+use Rattle.core_terms.specs.Conditions.{IsCoreDocument}
 use Rattle.obligations.specs.declared.branches.Obligation.{Obligation}
 use Rattle.obligations.specs.declared.certificates.Cert.{Cert}
 use Rattle.obligations.specs.Obligations.{IsObligation}
 use Rattle.event_checker.specs.declared.checker.Checker.{Checker}
 use Rattle.event_checker.specs.Checkers.{CheckerIsReady, CheckerStandsFor}
-use Rattle.fair_rounds.specs.declared.records.Record.{Record}
 use Rattle.proof_plans.specs.declared.plans.Plan.{Plan}
 use Rattle.proof_plans.specs.declared.plans.StepFault.{StepFault}
+use Rattle.proof_plans.specs.from_rules_steps.Starts.{document_seen}
+use Rattle.proof_plans.specs.from_rules_steps.Using.{BookFits}
 use Rattle.proof_plans.specs.Giving.{AreWhole}
-use Rattle.proof_plans.specs.Planning.{reach_from}
-use Rattle.proof_plans.specs.Reaching.{reach_of, reached}
-use Rattle.proof_plans.specs.Verdicts.{most_levels}
-use Rattle.reached_verdicts.specs.ByReach.{Name, names_of, name_at, refuted_named, plan_refuted}
+use Rattle.proof_plans.specs.Verdicts.{last_verdict, most_levels, proofs_verdict, refuted_by, then_by, verdict_of}
+use Rattle.step_plans.specs.Planning.{left_by, records_of}
 use Rattle.event_judge.specs.declared.judge.Judge.{Judge}
 use Rattle.event_judge.specs.Told.{Told, told_by, begun}
 
--- the step that leaves the obligation of this number, from 0
-pub record IsLeftBy (plan : Plan) (number : ℕ) (made : Record) : Type 0 where
-  pub place : ℕ
-  pub owner : slice_get plan.owner number ≡ Some place
-  pub record_is : slice_get plan.records place ≡ Some made
+-- whole certificates that begin as was told
+pub record BeginsAs (t : Told) (certs : List Cert) : Type 0 where
+  pub more : List Cert
+  pub parts : certs ≡ t.certs ++ more
+  pub count : begun t ≤ length certs
+  pub whole : AreWhole certs
 
--- some step leaves it
-abbrev pub IsOwned : Plan → ℕ → Type 0
-IsOwned plan number = (made : Record) × IsLeftBy plan number made
+-- whatever certificates begin as was told, the verdict is that on what is left: on these obligations of the present
+-- step, and then on the proofs behind it, after this plan
+abbrev pub LeavesVerdict : CDocument → Judge → Told → Plan → List Obligation → Type 0
+LeavesVerdict d j t plan left = (certs : List Cert) → BeginsAs t certs → verdict_of d certs ≡
+    then_by (refuted_by (most_levels d.version) certs j.program j.step (length t.certs) left) (λ done.
+    then_by (proofs_verdict (document_seen d) certs (left_by d j.planner) plan) (last_verdict certs))
 
--- and the names of the steps, in order, name it
-pub record IsNamedStep (names : List Name) (plan : Plan) (number : ℕ) : Type 0 where
-  pub made : Record
-  pub left : IsLeftBy plan number made
-  pub name : name_at names left.place ≡ (made.program, made.name)
+-- the steps so far come to this plan, and these obligations of the present one are left; each obligation before was
+-- refuted by its certificate
+pub record Leaves (d : CDocument) (j : Judge) (t : Told) (left : List Obligation) : Type 0 where
+  pub plan : Plan
+  pub records : records_of j.planner ≡ plan.records
+  pub book : BookFits d.slots plan.records
+  pub levels : j.levels ≡ most_levels d.version
+  pub number : j.number ≡ length t.certs + 1
+  pub count : length plan.obligations ≡ length t.certs + length left
+  pub makeable : All IsObligation left
+  pub verdict : LeavesVerdict d j t plan left
 
--- a plan of the steps with these names
-pub record IsPlanWithNames (names : List Name) (plan : Plan) : Type 0 where
-  pub makeable : All IsObligation plan.obligations
-  pub owned : length plan.owner ≡ length plan.obligations
-  pub named : (number : ℕ) → number < length plan.obligations → IsNamedStep names plan number
+-- no certificate is open
+pub record Rests (d : CDocument) (j : Judge) (t : Told) : Type 0 where
+  pub going : j.failed ≡ None
+  pub checker : j.checker ≡ None
+  pub told : t.part ≡ None
+  pub leaves : Leaves d j t (reverse j.left)
 
--- the names of a document's steps
-abbrev pub names_in : CDocument → List Name
-names_in d = names_of d.programs d.proofs
-
--- the obligations of a plan against certificates
-abbrev pub shown_by : CDocument → List Cert → Plan → Result (Unit {0}) StepFault
-shown_by d certs plan = plan_refuted (most_levels d.version) certs (names_in d) plan
-
--- those from this number on, from 0
-abbrev pub shown_from : CDocument → List Cert → ℕ → Plan → Result (Unit {0}) StepFault
-shown_from d certs number plan = refuted_named (most_levels d.version) certs (names_in d) number
-    (drop number plan.obligations) (drop number plan.owner)
-
--- whatever certificates follow these, the obligations before this number are refuted
-abbrev pub IsShownBefore : CDocument → List Cert → ℕ → Plan → Type 0
-IsShownBefore d certs number plan = AreWhole certs → (more : List Cert) →
-    shown_by d (certs ++ more) plan ≡ shown_from d (certs ++ more) number plan
-
--- whatever certificates follow these, the first obligation that is not refuted fails so
-abbrev pub FailsWith : CDocument → List Cert → Plan → StepFault → Type 0
-FailsWith d certs plan fault = AreWhole certs → (more : List Cert) → shown_by d (certs ++ more) plan ≡ Err fault
+-- and where no obligation is left, no step is
+pub record IsWaiting (d : CDocument) (j : Judge) (t : Told) : Type 0 where
+  pub told : t.part ≡ None
+  pub leaves : Leaves d j t (reverse j.left)
+  pub over : j.left ≡ [] → left_by d j.planner ≡ []
 
 -- a checker has the obligation that comes next, and was told what the open certificate told so far
-pub record IsChecking (j : Judge) (plan : Plan) (t : Told) (c : Checker) : Type 0 where
+pub record IsChecking (d : CDocument) (j : Judge) (t : Told) (c : Checker) : Type 0 where
   pub events : List CertEvent
   pub told : t.part ≡ Some events
   pub obligation : Obligation
-  pub next : slice_get plan.obligations j.judged ≡ Some obligation
-  pub others : slice_set j.plan.obligations j.judged obligation ≡ plan.obligations
+  pub leaves : Leaves d j t (obligation ∷ reverse j.left)
   pub stands : CheckerStandsFor j.levels c obligation events
   pub ready : CheckerIsReady c
 
--- or no obligation is being checked: no certificate is open, or no obligation is left
-pub record IsWaiting (j : Judge) (plan : Plan) (t : Told) : Type 0 where
-  pub obligations : j.plan.obligations ≡ plan.obligations
-  pub told : j.judged < length plan.obligations → t.part ≡ None
+abbrev pub Judging : Option Checker → CDocument → Judge → Told → Type 0
+Judging None d j t = IsWaiting d j t
+Judging (Some c) d j t = IsChecking d j t c
 
-abbrev pub IsAtObligation : Option Checker → Judge → Plan → Told → Type 0
-IsAtObligation None j plan t = IsWaiting j plan t
-IsAtObligation (Some c) j plan t = IsChecking j plan t c
-
--- each obligation so far was refuted by its certificate
-pub record Judging (d : CDocument) (j : Judge) (t : Told) : Type 0 where
-  pub plan : Plan
-  pub reach : reach_of d ≡ reach_from plan j.stopped
-  pub planned : IsPlanWithNames (names_in d) plan
-  pub levels : j.levels ≡ most_levels d.version
-  pub records : j.plan.records ≡ plan.records
-  pub owner : j.plan.owner ≡ plan.owner
-  pub judged : j.judged ≡ min (length plan.obligations) (length t.certs)
-  pub surplus : j.surplus ≡ nat_lt (length plan.obligations) (begun t)
-  pub shown : IsShownBefore d t.certs j.judged plan
-  pub at : IsAtObligation j.checker j plan t
-
--- one was not
+-- whatever certificates begin as was told, the verdict is this failure
 pub record Failed (d : CDocument) (j : Judge) (t : Told) (fault : StepFault) : Type 0 where
-  pub fails : FailsWith d t.certs (reached (reach_of d)) fault
+  pub fails : (certs : List Cert) → BeginsAs t certs → verdict_of d certs ≡ Err fault
   pub checker : j.checker ≡ None
 
 abbrev pub JudgeStandsAt : Option StepFault → CDocument → Judge → Told → Type 0
-JudgeStandsAt None d j t = Judging d j t
+JudgeStandsAt None d j t = Judging j.checker d j t
 JudgeStandsAt (Some fault) d j t = Failed d j t fault
 
 abbrev pub JudgeStands : CDocument → Judge → Told → Type 0
@@ -116,7 +91,13 @@ abbrev pub JudgeStandsFor : CDocument → Judge → List CertEvent → Type 0
 JudgeStandsFor d j es = JudgeStands d j (told_by es)
 
 -- it was told some events, and memory was not refused
-pub record JudgeIsReady (j : Judge) : Type 0 where
-  pub document : CDocument
+pub record JudgeIsReady (d : CDocument) (j : Judge) : Type 0 where
+  pub core : IsCoreDocument d
   pub told : Told
-  pub stands : JudgeStands document j told
+  pub stands : JudgeStands d j told
+
+-- it was told some events, of which the last ended a certificate, and has not planned on
+pub record JudgeRests (d : CDocument) (j : Judge) : Type 0 where
+  pub core : IsCoreDocument d
+  pub told : Told
+  pub rests : Rests d j told

@@ -1,37 +1,30 @@
-// How certificates fail against the obligations of a plan.
-ghost use Rattle.std.specs.Prelude.{◌≡◌, ◌<◌, ◌^◌};
-ghost use Rattle.fair_rounds.specs.declared.records.Record.{Record};
-ghost use Rattle.proof_plans.specs.Verdicts.{refutation_fault, surplus_fault};
-ghost use Rattle.event_judge.specs.Judges.{IsLeftBy, IsOwned};
+// How certificates fail.
+ghost use Rattle.std.specs.Prelude.{◌≡◌, ◌+◌, ℕ};
+ghost use Rattle.proof_plans.specs.Verdicts as verdicts;
 
 use case_tables::Code;
-use proof_plans::{Plan, StepFault};
+use proof_plans::StepFault;
 
-/// The obligation of this number, from 0, fails.
-pub(crate) fn refutation_fault(plan: &Plan, number: usize, code: Code) -> StepFault
-    requires { IsOwned plan.now number }
-    ensures { (made : Record) → IsLeftBy plan.now number made →
-        result ≡ refutation_fault made.program made.name number code }
+/// The obligation of this number, from 1, which this step of this program leaves, fails.
+pub(crate) fn refutation_fault(program: u32, step: u32, number: u64, code: Code) -> StepFault
+    ensures { (before : ℕ) → number ≡ before + 1 → result ≡ verdicts.refutation_fault program step before code }
 {
-    let place = plan.owner.as_slice()[number] as usize;
-    let made = &plan.records.as_slice()[place];
     StepFault {
         code,
-        program: Some(made.program),
-        step: Some(made.name),
-        obligation: Some(number as u64 + 1),
+        program: Some(program),
+        step: Some(step),
+        obligation: Some(number),
     }
 }
 
-/// The first certificate past this number of obligations.
-pub(crate) fn surplus_fault(obligations: usize) -> StepFault
-    requires { obligations < 2 ^ 63 }
-    ensures { result ≡ surplus_fault obligations }
+/// The certificate of this number, from 1, is one too many.
+pub(crate) fn surplus_fault(number: u64) -> StepFault
+    ensures { (before : ℕ) → number ≡ before + 1 → result ≡ verdicts.surplus_fault before }
 {
     StepFault {
         code: Code::CertSurplus,
         program: None,
         step: None,
-        obligation: Some(obligations as u64 + 1),
+        obligation: Some(number),
     }
 }

@@ -1,13 +1,14 @@
 //! What is found of a text that is judged as it is read.
 use crate::refusal::{GREATEST_SIZE, Refusal};
 use case_tables::Code;
-use proof_plans::{Plan, StepFault};
+use proof_plans::StepFault;
+use proof_script::Summary;
 use std::alloc::Global;
 use streamed_documents::{Finding, Flaw, SourceStop, judge_source};
 use unity_base::Source;
 
-/// The code of a verdict, none where a plan is given.
-fn code_of(verdict: &Result<Plan, StepFault>) -> Option<Code> {
+/// The code of a verdict, none where it is accepted.
+fn code_of(verdict: &Result<Summary, StepFault>) -> Option<Code> {
     match verdict {
         Ok(_) => None,
         Err(fault) => Some(fault.code),

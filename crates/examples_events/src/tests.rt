@@ -6,13 +6,14 @@ use crate::refusal::Refusal;
 use crate::whole::{read_whole, verdict_on};
 use case_tables::Code;
 use documents::{EDITS, READ, REFUSED, SHARE};
-use proof_plans::{Plan, ScriptError};
+use proof_plans::ScriptError;
+use proof_script::Summary;
 use std::alloc::Global;
 use std::test::Fail;
 use unity_base::{DripSource, MemSource};
 
 /// The code of a verdict, none where a plan is given.
-fn code_of(verdict: Result<Plan, ScriptError>) -> Result<Option<Code>, Refusal> {
+fn code_of(verdict: Result<Summary, ScriptError>) -> Result<Option<Code>, Refusal> {
     match verdict {
         Ok(_) => Ok(None),
         Err(ScriptError::Step(fault)) => Ok(Some(fault.code)),

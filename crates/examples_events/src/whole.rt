@@ -7,8 +7,8 @@ use crate::certificates::certificates_from;
 use crate::refusal::{GREATEST_SIZE, Refusal};
 use core_terms::CDocument;
 use obligations::Cert;
-use proof_plans::{Plan, ScriptError};
-use proof_script::check;
+use proof_plans::ScriptError;
+use proof_script::{Summary, check};
 use std::alloc::Global;
 use streamed_documents::core_of;
 use unity_base::{Held, Seq};
@@ -37,7 +37,7 @@ pub fn read_whole(alloc: Global, bytes: &[u8]) -> Result<Whole, Refusal>
 }
 
 /// The verdict on it.
-pub fn verdict_on(alloc: Global, text: &Whole) -> Result<Plan, ScriptError>
+pub fn verdict_on(alloc: Global, text: &Whole) -> Result<Summary, ScriptError>
     requires document { IsCoreDocument text.now.core }
     requires whole { AreWhole text.now.certificates }
 {

@@ -30,7 +30,7 @@ use Rattle.proof_script.specs.declared.plans.Proof as found
 use Rattle.proof_script.specs.Proving.{Finds, ProvedWithin}
 use Rattle.proof_script.specs.Proving.{BudgetIsShort}
 use Rattle.proof_script.specs.Proving.{IsStopped}
-use Rattle.event_judge.specs.Judges.{IsOwned}
+use Rattle.proof_script.specs.Owning.{IsOwned}
 use Rattle.proof_plans.specs.Planning.{reach_from}
 use Rattle.proof_plans.specs.Reaching.{Reach, reach_of, reached}
 use Rattle.proof_plans.specs.Shown.{ShownAt, AreShown}

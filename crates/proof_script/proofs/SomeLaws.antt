@@ -21,8 +21,8 @@ use Rattle.proof_plans.specs.Reaching.{Reach, reach_of}
 use Rattle.proof_plans.specs.Reaching.{reached}
 use Rattle.proof_script.specs.Searches.{HasCertificates, Searches}
 use Rattle.proof_plans.proofs.ReachLaws.{no_more}
-use Rattle.event_judge.specs.Judges.{IsOwned}
-use Rattle.event_judge.proofs.PlannedLaws.{makeable_of, owned_of}
+use Rattle.proof_script.specs.Owning.{IsOwned}
+use Rattle.proof_script.proofs.PlannedLaws.{makeable_of, owned_of}
 use Rattle.proof_script.proofs.SearchLaws.{begins, false_within, found_one, owner_is, proved_by, refuted_one}
 use Rattle.proof_script.proofs.SearchLaws.{search_more, short_by, short_within, stopped_by}
 

@@ -5,20 +5,22 @@ use Rattle.std.specs.List.{flat_map}
 use Rattle.std.proofs.lemmas.Grind.{flat_map-append}
 use Rattle.std.proofs.lemmas.List.{map-append, take_all, take_more}
 use Rattle.unity_base.specs.declared.events.CertEvent.{CertEvent}
+use Rattle.core_terms.specs.declared.documents.CDocument.{CDocument}
 use Rattle.event_judge.specs.declared.judge.Judge.{Judge}
 use Rattle.event_judge.specs.Judges.{JudgeStandsFor}
 use Rattle.proof_script.specs.Telling.{JudgeIsTold}
 
-pub told-none : (a : Judge) → JudgeIsTold a a []
-told-none a d es s = subst (JudgeStandsFor d a) (sym (append-nil es)) s
+pub told-none : (d : CDocument) (a : Judge) → JudgeIsTold d a a []
+told-none d a es s = subst (JudgeStandsFor d a) (sym (append-nil es)) s
 
-pub told-so : (a b : Judge) (es fs : List CertEvent) → es ≡ fs → JudgeIsTold a b es → JudgeIsTold a b fs
-told-so a b es fs e f = subst (λ xs. JudgeIsTold a b xs) e f
+pub told-so : (d : CDocument) (a b : Judge) (es fs : List CertEvent) → es ≡ fs → JudgeIsTold d a b es →
+    JudgeIsTold d a b fs
+told-so d a b es fs e f = subst (λ xs. JudgeIsTold d a b xs) e f
 
-pub told-then : (a b c : Judge) (es fs : List CertEvent) → JudgeIsTold a b es → JudgeIsTold b c fs →
-    JudgeIsTold a c (es ++ fs)
-told-then a b c es fs f g d before s =
-    subst (JudgeStandsFor d c) (append_assoc before es fs) (g d (before ++ es) (f d before s))
+pub told-then : (d : CDocument) (a b c : Judge) (es fs : List CertEvent) → JudgeIsTold d a b es →
+    JudgeIsTold d b c fs → JudgeIsTold d a c (es ++ fs)
+told-then d a b c es fs f g before s =
+    subst (JudgeStandsFor d c) (append_assoc before es fs) (g (before ++ es) (f before s))
 
 -- one item more
 

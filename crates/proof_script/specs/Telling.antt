@@ -5,7 +5,6 @@ use Rattle.core_terms.specs.declared.documents.CDocument.{CDocument}
 use Rattle.event_judge.specs.declared.judge.Judge.{Judge}
 use Rattle.event_judge.specs.Judges.{JudgeStandsFor}
 
--- a judge was told these events more
-abbrev pub JudgeIsTold : Judge → Judge → List CertEvent → Type 0
-JudgeIsTold old new told = (d : CDocument) (es : List CertEvent) → JudgeStandsFor d old es →
-    JudgeStandsFor d new (es ++ told)
+-- a judge of this document was told these events more
+abbrev pub JudgeIsTold : CDocument → Judge → Judge → List CertEvent → Type 0
+JudgeIsTold d old new told = (es : List CertEvent) → JudgeStandsFor d old es → JudgeStandsFor d new (es ++ told)

@@ -14,3 +14,4 @@ pub use laws::search_laws;
 pub use plans::Proof;
 pub use proof_plans::{Plan, ScriptError, StepFault, walk};
 pub use proving::prove;
+pub use step_plans::Summary;

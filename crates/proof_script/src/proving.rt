@@ -5,7 +5,7 @@ ghost use Rattle.core_terms.specs.declared.documents.CDocument.{CDocument};
 ghost use Rattle.fair_rounds.specs.declared.records.Record.{Record};
 ghost use Rattle.proof_plans.specs.Planning.{reach_from};
 ghost use Rattle.proof_plans.specs.Reaching.{reach_of, reached};
-ghost use Rattle.event_judge.specs.Judges.{IsLeftBy, IsOwned};
+ghost use Rattle.proof_script.specs.Owning.{IsLeftBy, IsOwned};
 ghost use Rattle.proof_script.specs.declared.finding.Finding.{Finding};
 ghost use Rattle.proof_script.specs.declared.finding.Halt.{Halt};
 ghost use Rattle.proof_script.specs.Proving.{Finds};

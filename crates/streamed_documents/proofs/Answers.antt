@@ -94,7 +94,7 @@ told_on section_at d (Pending.Judge core judge) new on es all heard told =
       named = on.named;
       expands = on.expands;
       core_is = on.core_is;
-      stands = told core heard.0 (heard.2.stands core [] on.stands);
+      stands = told core heard.0 (heard.2.stands [] on.stands);
     })
 
 passed_as : (limit : ℕ) (bytes : List ℕ) (d : Document) → length bytes ≤ limit → IsDocument bytes d

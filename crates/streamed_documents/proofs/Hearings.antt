@@ -17,14 +17,15 @@ hears_none (Pending.Document r) h = refl
 hears_none (Pending.Judge core judge) h = (
   judge,
   refl,
-  record { ready = h; stands = λ d before s. subst (λ es. JudgeStandsFor d judge es) (sym (append-nil before)) s },
+  record { ready = h; stands = λ before s. subst (λ es. JudgeStandsFor core judge es) (sym (append-nil before)) s },
 )
 
-told_on : (i j k : Judge) (es fs : List CertEvent) → ToldMore i j es → ToldMore j k fs → ToldMore i k (es ++ fs)
-told_on i j k es fs m n = record {
+told_on : (d : CDocument) (i j k : Judge) (es fs : List CertEvent) → ToldMore d i j es → ToldMore d j k fs →
+    ToldMore d i k (es ++ fs)
+told_on d i j k es fs m n = record {
   ready = n.ready;
-  stands = λ d before s. subst (λ all. JudgeStandsFor d k all) (append_assoc before es fs)
-      (n.stands d (before ++ es) (m.stands d before s));
+  stands = λ before s. subst (λ all. JudgeStandsFor d k all) (append_assoc before es fs)
+      (n.stands (before ++ es) (m.stands before s));
 }
 
 pub hears_then : (p q r : Pending) (es fs : List CertEvent) → Hears p q es → Hears q r fs → Hears p r (es ++ fs)
@@ -32,19 +33,19 @@ hears_then (Pending.Fault code at) q r es fs h k = subst (λ q. Hears q r fs) h 
 hears_then (Pending.Document d) q r es fs h k = subst (λ q. Hears q r fs) h k
 hears_then (Pending.Judge core judge) q r es fs h k =
     let later = subst (λ q. Hears q r fs) h.1 k in
-    (later.0, later.1, told_on judge h.0 later.0 es fs h.2 later.2)
+    (later.0, later.1, told_on core judge h.0 later.0 es fs h.2 later.2)
 
 -- a judge that heard events was told them
 pub judge_heard : (core : CDocument) (old : Judge) (new : Pending) (es : List CertEvent)
-    → Hears (Pending.Judge core old) new es → (judge : Judge) × (new ≡ Pending.Judge core judge) × ToldMore old judge es
+    → Hears (Pending.Judge core old) new es
+    → (judge : Judge) × (new ≡ Pending.Judge core judge) × ToldMore core old judge es
 judge_heard core old new es h = h
 
 -- a judge that took an event
 pub judge_hears : {E : Type 0} (p : Pending) (core : CDocument) (old new : Judge) (e : CertEvent)
     (result : Result (Unit {0}) E) → p ≡ Pending.Judge core old
-    → OnOk result ((d : CDocument) (es : List CertEvent) → JudgeStandsFor d old es →
-    JudgeStandsFor d new (es ++ e ∷ []))
-    → OnOk result (JudgeIsReady new) → OnOk result (Hears p (Pending.Judge core new) (e ∷ []))
+    → OnOk result ((es : List CertEvent) → JudgeStandsFor core old es → JudgeStandsFor core new (es ++ e ∷ []))
+    → OnOk result (JudgeIsReady core new) → OnOk result (Hears p (Pending.Judge core new) (e ∷ []))
 judge_hears p core old new e (Ok done) is stands ready =
     subst (λ p. Hears p (Pending.Judge core new) (e ∷ [])) (sym is)
     (new, refl, record { ready = ready; stands = stands })
@@ -88,12 +89,12 @@ ready_may Listener.Nobody (Pending.Judge core judge) h = absurd h
 
 -- a judge that took an event stays one
 pub judge_stays : {E : Type 0} (p : Pending) (core : CDocument) (old new : Judge) (result : Result (Unit {0}) E)
-    → p ≡ Pending.Judge core old → OnOk result (JudgeIsReady new) → OnOk result (StaysReady p (Pending.Judge core new))
+    → p ≡ Pending.Judge core old → OnOk result (JudgeIsReady core new) → OnOk result (StaysReady p (Pending.Judge core new))
 judge_stays p core old new (Ok done) is ready =
     subst (λ p. StaysReady p (Pending.Judge core new)) (sym is) (new, refl, ready)
 judge_stays p core old new (Err x) is ready = tt
 
 -- what may hear a judge is may be told
 pub ready_of : (p : Pending) (core : CDocument) (judge : Judge) → p ≡ Pending.Judge core judge → MayHear p
-    → JudgeIsReady judge
+    → JudgeIsReady core judge
 ready_of p core judge is may = subst MayHear is may

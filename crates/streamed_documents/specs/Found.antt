@@ -4,6 +4,7 @@ use Rattle.unity_syntax.specs.declared.certificate.Certificates.{Certificates}
 use Rattle.unity_syntax.specs.declared.document.Document.{Document}
 use Rattle.quantified_assign.specs.from_expand_documents.Cores.{core_document}
 use Rattle.proof_plans.specs.Verdicts.{verdict_of}
+use Rattle.step_plans.specs.Summaries.{summed}
 use Rattle.certificate_reading.specs.Certificates.{certificates_of}
 use Rattle.streamed_documents.specs.declared.found.Flaw.{Flaw}
 use Rattle.streamed_documents.specs.declared.found.Finding.{Finding}
@@ -13,13 +14,14 @@ use Rattle.streamed_documents.specs.declared.found.Reading.{Reading}
 use Rattle.streamed_documents.specs.Places.{step_places}
 use Rattle.streamed_documents.specs.WellFormed.{IsWellFormed, IsFirstFault}
 
--- the bytes are a document without a fault, with this core form, and this is the verdict on it with its certificates
+-- the bytes are a document without a fault, with this core form, and this is kept of the verdict on it with its
+-- certificates
 pub record IsJudged (most : ℕ) (bytes : List ℕ) (j : JudgedDocument) : Type 0 where
   pub document : Document
   pub size : length bytes ≤ most
   pub reading : IsWellFormed bytes document
   pub core_is : j.core ≡ core_document document
-  pub verdict_is : verdict_of (core_document document) (certificates_of document) ≡ j.verdict
+  pub verdict_is : summed (verdict_of (core_document document) (certificates_of document)) ≡ j.verdict
 
 -- the bytes are more than so many, or have this first fault
 abbrev pub IsRefused : ℕ → List ℕ → Flaw → Type 0

@@ -5,10 +5,11 @@ use Rattle.std.specs.Prelude.{Result}
 use Rattle.core_terms.specs.Conditions.{IsCoreDocument}
 use Rattle.core_terms.specs.declared.documents.CDocument.{CDocument}
 use Rattle.obligations.specs.declared.certificates.Cert.{Cert}
-use Rattle.proof_plans.specs.declared.plans.Plan.{Plan}
 use Rattle.proof_plans.specs.declared.plans.StepFault.{StepFault}
 use Rattle.proof_plans.specs.Giving.{AreWhole}
 use Rattle.proof_plans.specs.Verdicts.{verdict_of}
+use Rattle.step_plans.specs.declared.summaries.Summary.{Summary}
+use Rattle.step_plans.specs.Summaries.{summed}
 use Rattle.event_judge.specs.declared.judge.Judge.{Judge}
 use Rattle.event_judge.specs.Judges.{JudgeStandsFor}
 use Rattle.event_judge.specs.Told.{certs_events}
@@ -89,9 +90,9 @@ IsPassageFor listener (Passage.Refused flaw) = Unit {0}
 IsPassageFor listener (Passage.Passed pending) = IsReadyFor listener pending
 
 -- the verdict of a judge, by whatever certificates it was told
-abbrev pub IsVerdict : Judge → Result Plan StepFault → Type 0
+abbrev pub IsVerdict : Judge → Result Summary StepFault → Type 0
 IsVerdict judge verdict = (d : CDocument) (certs : List Cert) → AreWhole certs →
-    JudgeStandsFor d judge (certs_events certs) → verdict_of d certs ≡ verdict
+    JudgeStandsFor d judge (certs_events certs) → summed (verdict_of d certs) ≡ verdict
 
 abbrev pub IsVerdictBy : CDocument → Judge → Finding → Type 0
 IsVerdictBy core judge (Finding.Refused flaw) = ⊥

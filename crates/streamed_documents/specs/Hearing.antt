@@ -14,37 +14,36 @@ use Rattle.streamed_documents.specs.declared.found.ReadDocument.{ReadDocument}
 use Rattle.streamed_documents.specs.Places.{step_places}
 use Rattle.streamed_documents.specs.WellFormed.{document_fault}
 
--- a judge was told these events more, and may be told others
-pub record ToldMore (old new : Judge) (es : List CertEvent) : Type 0 where
-  pub ready : JudgeIsReady new
-  pub stands : (d : CDocument) (before : List CertEvent) → JudgeStandsFor d old before →
-      JudgeStandsFor d new (before ++ es)
+-- a judge of this document was told these events more, and may be told others
+pub record ToldMore (d : CDocument) (old new : Judge) (es : List CertEvent) : Type 0 where
+  pub ready : JudgeIsReady d new
+  pub stands : (before : List CertEvent) → JudgeStandsFor d old before → JudgeStandsFor d new (before ++ es)
 
 -- a judge hears events, and nothing else does
 abbrev pub Hears : Pending → Pending → List CertEvent → Type 0
 Hears (Pending.Fault code at) new es = new ≡ Pending.Fault code at
 Hears (Pending.Document r) new es = new ≡ Pending.Document r
 Hears (Pending.Judge core old) new es =
-    (judge : Judge) × (new ≡ Pending.Judge core judge) × ToldMore old judge es
+    (judge : Judge) × (new ≡ Pending.Judge core judge) × ToldMore core old judge es
 
 -- it may be told events
 abbrev pub MayHear : Pending → Type 0
 MayHear (Pending.Fault code at) = Unit {0}
 MayHear (Pending.Document r) = Unit {0}
-MayHear (Pending.Judge core judge) = JudgeIsReady judge
+MayHear (Pending.Judge core judge) = JudgeIsReady core judge
 
 -- whatever it was told, it may be told more, and is of the same document
 abbrev pub StaysReady : Pending → Pending → Type 0
 StaysReady (Pending.Fault code at) new = new ≡ Pending.Fault code at
 StaysReady (Pending.Document r) new = new ≡ Pending.Document r
-StaysReady (Pending.Judge core old) new = (judge : Judge) × (new ≡ Pending.Judge core judge) × JudgeIsReady judge
+StaysReady (Pending.Judge core old) new = (judge : Judge) × (new ≡ Pending.Judge core judge) × JudgeIsReady core judge
 
 -- it is a fault, or there for this listener
 abbrev pub IsReadyFor : Listener → Pending → Type 0
 IsReadyFor listener (Pending.Fault code at) = Unit {0}
 IsReadyFor Listener.Judge (Pending.Document r) = ⊥
 IsReadyFor Listener.Nobody (Pending.Document r) = Unit {0}
-IsReadyFor Listener.Judge (Pending.Judge core judge) = JudgeIsReady judge
+IsReadyFor Listener.Judge (Pending.Judge core judge) = JudgeIsReady core judge
 IsReadyFor Listener.Nobody (Pending.Judge core judge) = ⊥
 
 -- a document without a fault, with a judge that was told these events of it

@@ -54,7 +54,7 @@ fn hear(pending: &mut Pending, e: CertEvent) -> Result<(), AllocError>
 {
     match pending {
         Pending::Fault { .. } | Pending::Document(_) => Ok(()),
-        Pending::Judge { judge, .. } => judge.take(e),
+        Pending::Judge { core, judge } => judge.take(core.get(), e),
     }
 }
 

@@ -3,8 +3,9 @@ ghost use Rattle.std.specs.Prelude.{◌≡◌};
 
 use case_tables::Code;
 use core_terms::CDocument;
-use proof_plans::{Plan, StepFault};
+use proof_plans::StepFault;
 use std::alloc::AllocError;
+use step_plans::Summary;
 use unity_base::{Failed, Held, Seq};
 
 /// Why a text is no document without a fault.
@@ -26,8 +27,8 @@ pub enum Flaw {
 pub struct JudgedDocument {
     /// The core form.
     pub core: CDocument,
-    /// The plan of all steps, or the first failure.
-    pub verdict: Result<Plan, StepFault>,
+    /// What is kept of the plan of all steps, or the first failure.
+    pub verdict: Result<Summary, StepFault>,
 }
 
 /// What a text is found to be.

@@ -1,5 +1,6 @@
 //! The answers for a text that was read to its end.
 ghost use Rattle.std.specs.Prelude.{ℕ, List, IfOk};
+ghost use Rattle.core_terms.specs.declared.documents.CDocument.{CDocument};
 ghost use Rattle.event_judge.specs.Judges.{JudgeIsReady};
 ghost use Rattle.streamed_documents.specs.declared.fronts.Listener.TheVariants as listener;
 ghost use Rattle.streamed_documents.specs.Found.{IsReading};
@@ -10,17 +11,18 @@ use crate::behind::Pending;
 use crate::found::{Finding, Flaw, JudgedDocument, Reading};
 use core_terms::CDocument;
 use event_judge::Judge;
-use proof_plans::{Plan, ScriptError, StepFault};
+use proof_plans::{ScriptError, StepFault};
 use std::alloc::{AllocError, Global};
+use step_plans::Summary;
 use unity_base::Held;
 
 /// A judge's verdict. A judge never answers that memory was refused.
-fn verdict_by(judge: Judge) -> Result<Result<Plan, StepFault>, AllocError>
-    requires { JudgeIsReady judge }
+fn verdict_by(judge: Judge) -> Result<Result<Summary, StepFault>, AllocError>
+    requires { (d : CDocument) × JudgeIsReady d judge }
     ensures { IfOk result (IsVerdict judge) }
 {
     match judge.finish() {
-        Ok(plan) => Ok(Ok(plan)),
+        Ok(summary) => Ok(Ok(summary)),
         Err(ScriptError::Step(fault)) => Ok(Err(fault)),
         Err(ScriptError::Memory) => Err(AllocError),
     }
@@ -28,7 +30,7 @@ fn verdict_by(judge: Judge) -> Result<Result<Plan, StepFault>, AllocError>
 
 /// A document with a judge's verdict on it.
 fn judged(alloc: Global, core: CDocument, judge: Judge) -> Result<Finding, AllocError>
-    requires { JudgeIsReady judge }
+    requires { JudgeIsReady core judge }
     ensures { IfOk result (IsVerdictBy core judge) }
 {
     let verdict = verdict_by(judge)?;

@@ -1,15 +1,22 @@
 -- What is told of a source that is read token by token.
-use Rattle.std.proofs.Common.{◌≡◌, ◌↔◌, ℕ, List, Bool, true, false, Option, Some, Result, Ok, Err}
+use Rattle.std.proofs.Common.{◌≡◌, ◌↔◌, ℕ, zero, suc, List, [], ◌∷◌, length, Bool, true, false, Option, Some, Result, Ok, Err}
 use Rattle.std.proofs.Common.{IfOk, refl, sym, ◌∙◌, subst, ap}
 use Rattle.std.specs.Io.KnownBytes.{Appends}
 use Rattle.unity_base.specs.Streams.{Was}
 use Rattle.case_tables.specs.declared.code_table.Code.{Code}
 use Rattle.unity_syntax.specs.declared.document.Document.{Document}
 use Rattle.unity_parser.specs.Document.{IsDocument}
+use Rattle.fixed_correct.specs.from_expand_documents.Cores.{core_document}
+use Rattle.core_terms.specs.declared.trees.CForm.{CForm}
+use Rattle.obligations.specs.declared.branches.Obligation.{Obligation}
+use Rattle.certificate_reading.specs.Certificates.{certificates_of}
 use Rattle.cli_texts.specs.from_proof_plans.declared.plans.Plan.{Plan}
 use Rattle.cli_texts.specs.from_proof_plans.declared.plans.StepFault.{StepFault}
 use Rattle.cli_texts.specs.Refusals.{fault_text, refusal_text}
-use Rattle.cli_texts.specs.Verdicts.{accepted_text, rejected_text}
+use Rattle.cli_texts.specs.from_proof_plans.Verdicts.{verdict_of}
+use Rattle.cli_texts.specs.Verdicts.{accepted_lines, accepted_text, rejected_text}
+use Rattle.step_plans.specs.declared.summaries.Summary.{Summary}
+use Rattle.step_plans.specs.Summaries.{summary_of, summed}
 use Rattle.cli_words.specs.declared.words.Command.{Command}
 use Rattle.cli_words.specs.Requests.{Request, meant, check, watch}
 use Rattle.streamed_documents.specs.declared.found.JudgedDocument.{JudgedDocument}
@@ -39,15 +46,46 @@ judged_read : (bytes : List ℕ) (j : JudgedDocument) (h : IsJudged greatest_siz
     → IsAdmitted greatest_size bytes h.document
 judged_read bytes j h = record { size = h.size; reading = h.reading }
 
-pub judged_accepted : (bytes : List ℕ) (j : JudgedDocument) (plan : Plan) (text : List ℕ) → j.verdict ≡ Ok plan
-    → text ≡ accepted_text j.core.words plan → IsJudged greatest_size bytes j → Checked bytes Status.Done text
-judged_accepted bytes j plan text is text_is h = record {
-  document = h.document;
-  read = judged_read bytes j h;
-  plan = plan;
-  verdict = h.verdict_is ∙ is;
-  text_is = text_is ∙ ap (λ c. accepted_text c.words plan) h.core_is;
-}
+-- a verdict of which this is kept
+summed_plan : (v : Result Plan StepFault) (s : Summary) → summed v ≡ Ok s →
+    (plan : Plan) × (v ≡ Ok plan) × (s ≡ summary_of plan)
+summed_plan (Ok plan) s e = (plan, refl, cc)
+summed_plan (Err fault) s e = cc
+
+summed_fault : (v : Result Plan StepFault) (fault : StepFault) → summed v ≡ Err fault → v ≡ Err fault
+summed_fault (Ok plan) fault e = cc
+summed_fault (Err first) fault e = cc
+
+pub judged_accepted : (bytes : List ℕ) (j : JudgedDocument) (s : Summary) (text : List ℕ) → j.verdict ≡ Ok s
+    → text ≡ accepted_lines j.core.words s.records s.obligations → IsJudged greatest_size bytes j
+    → Checked bytes Status.Done text
+judged_accepted bytes j s text is text_is h =
+    let kept = summed_plan (verdict_of (core_document h.document) (certificates_of h.document)) s (h.verdict_is ∙ is) in
+    record {
+      document = h.document;
+      read = judged_read bytes j h;
+      plan = kept.0;
+      verdict = kept.1;
+      text_is = text_is ∙ ap (λ (m : Summary). accepted_lines j.core.words m.records m.obligations) kept.2
+          ∙ ap (λ c. accepted_text c.words kept.0) h.core_is;
+    }
+
+-- as many obligations
+so_many : (n : ℕ) → (os : List Obligation) × (length os ≡ n)
+so_many zero = ([], refl)
+so_many (suc n) =
+    let rest = so_many n in
+    (record { form = CForm.Top; variables = [] } ∷ rest.0, ap (λ (k : ℕ). suc k) rest.1)
+
+-- the text of what is kept of a plan is that of some plan
+pub accepted_has_form : (words : List (List ℕ)) (s : Summary) (text : List ℕ)
+    → text ≡ accepted_lines words s.records s.obligations → IsCheckText Status.Done text
+accepted_has_form words s text is =
+    let os = so_many s.obligations in (
+      words,
+      record { records = s.records; obligations = os.0; owner = [] },
+      is ∙ ap (λ (n : ℕ). accepted_lines words s.records n) (sym os.1),
+    )
 
 pub judged_rejected : (bytes : List ℕ) (j : JudgedDocument) (fault : StepFault) (text : List ℕ) → j.verdict ≡ Err fault
     → text ≡ rejected_text j.core.words fault → IsJudged greatest_size bytes j → Checked bytes Status.Rejected text
@@ -55,7 +93,8 @@ judged_rejected bytes j fault text is text_is h = record {
   document = h.document;
   read = judged_read bytes j h;
   fault = fault;
-  verdict = h.verdict_is ∙ is;
+  verdict = summed_fault (verdict_of (core_document h.document) (certificates_of h.document)) fault
+      (h.verdict_is ∙ is);
   text_is = text_is ∙ ap (λ c. rejected_text c.words fault) h.core_is;
 }
 

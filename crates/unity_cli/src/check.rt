@@ -27,9 +27,9 @@ fn judged_answer(alloc: Global, judged: &JudgedDocument) -> Result<Answer, Alloc
 {
     let words = judged.core.words.as_slice();
     match &judged.verdict {
-        Ok(plan) => Ok(Answer {
+        Ok(summary) => Ok(Answer {
             status: Status::Done,
-            text: accepted(alloc, words, plan)?,
+            text: accepted(alloc, words, summary.records.as_slice(), summary.obligations)?,
         }),
         Err(fault) => Ok(Answer {
             status: Status::Rejected,

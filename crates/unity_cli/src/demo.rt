@@ -40,7 +40,8 @@ fn show(alloc: Global, places: u32) -> Result<Answer, AllocError>
     let Some(plan) = plan else {
         return Ok(answer);
     };
-    let verdict = accepted(alloc, words_of(&input), &plan)?;
+    let obligations = plan.obligations.len() as u64;
+    let verdict = accepted(alloc, words_of(&input), plan.records.as_slice(), obligations)?;
     let line = format!(in alloc; "ring {places} bytes {}\n", ring.len())?;
     let mut text = line.into_bytes();
     text.extend_from_slice(&verdict)?;

@@ -5,8 +5,8 @@ use Rattle.obligations.specs.Obligations.{IsObligation}
 use Rattle.proof_plans.specs.declared.plans.Plan.{Plan}
 use Rattle.proof_plans.specs.Reaching.{reached}
 use Rattle.proof_plans.proofs.PlanLaws.{reached_from}
-use Rattle.event_judge.specs.Judges.{IsOwned}
-use Rattle.event_judge.proofs.PlannedLaws.{makeable_of, owned_of}
+use Rattle.proof_script.specs.Owning.{IsOwned}
+use Rattle.proof_script.proofs.PlannedLaws.{makeable_of, owned_of}
 use Rattle.proof_script.specs.declared.finding.Finding.{Finding}
 use Rattle.proof_script.specs.Proving.{Finds}
 use Rattle.proof_script.specs.Searches.{HasCertificates, Halts}

@@ -15,8 +15,8 @@ returns-clause-tells c =
     let begun : List CertEvent = CertEvent.Begin ∷ [] in
     let ends : List CertEvent = CertEvent.End ∷ [] in
     on_ok_weaker c.take-2.result (λ tells.
-    told-so first last ((begun ++ nodes) ++ ends) (cert_events c.args.cert.now)
+    told-so c.args.doc.now first last ((begun ++ nodes) ++ ends) (cert_events c.args.cert.now)
     (ap (λ (ns : List Node). CertEvent.Begin ∷ (events_of ns ++ CertEvent.End ∷ [])) c.as_slice.ensures)
-    (told-then first c.tell_nodes.new.judge last (begun ++ nodes) ends
-    (told-then first c.take.new.self c.tell_nodes.new.judge begun nodes c.in_ok-take.ensures.stands
+    (told-then c.args.doc.now first c.tell_nodes.new.judge last (begun ++ nodes) ends
+    (told-then c.args.doc.now first c.take.new.self c.tell_nodes.new.judge begun nodes c.in_ok-take.ensures.stands
     c.in_ok-tell_nodes.ensures.tells) tells)) c.take-2.ensures.stands

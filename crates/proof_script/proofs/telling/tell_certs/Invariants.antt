@@ -6,6 +6,6 @@ use Rattle.proof_script.proofs.telling.tell_certs.Given as goal
 
 abbrev pub invariant-loop-cert : goal.invariant-loop-cert
 invariant-loop-cert l = record {
-  ready : JudgeIsReady l.judge;
-  tells : JudgeIsTold l.fn.judge l.judge (certs_events (take l.cert-index l.certs));
+  ready : JudgeIsReady l.doc l.judge;
+  tells : JudgeIsTold l.doc l.fn.judge l.judge (certs_events (take l.cert-index l.certs));
 }

@@ -12,7 +12,7 @@ returns-clause-tells c =
     let last = c.tell_rest.new.judge in
     let rest : List CertEvent = map pair_event (node_pairs c.args.node.now) in
     on_ok_weaker c.tell_rest.result (λ tells.
-    told-so first last (c.beginning.result ∷ rest) (beginning c.args.node.now ∷ rest)
+    told-so c.args.doc.now first last (c.beginning.result ∷ rest) (beginning c.args.node.now ∷ rest)
     (ap (λ (e : CertEvent). e ∷ rest) c.beginning.ensures)
-    (told-then first c.take.new.self last (c.beginning.result ∷ []) rest c.in_ok-take.ensures.stands tells))
+    (told-then c.args.doc.now first c.take.new.self last (c.beginning.result ∷ []) rest c.in_ok-take.ensures.stands tells))
     c.tell_rest.ensures.tells

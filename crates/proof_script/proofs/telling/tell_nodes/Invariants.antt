@@ -6,6 +6,6 @@ use Rattle.proof_script.proofs.telling.tell_nodes.Given as goal
 
 abbrev pub invariant-loop-node : goal.invariant-loop-node
 invariant-loop-node l = record {
-  ready : JudgeIsReady l.judge;
-  tells : JudgeIsTold l.fn.judge l.judge (events_of (take l.node-index l.nodes));
+  ready : JudgeIsReady l.doc l.judge;
+  tells : JudgeIsTold l.doc l.fn.judge l.judge (events_of (take l.node-index l.nodes));
 }

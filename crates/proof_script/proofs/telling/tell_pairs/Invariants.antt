@@ -6,6 +6,6 @@ use Rattle.proof_script.proofs.telling.tell_pairs.Given as goal
 
 abbrev pub invariant-loop-pair : goal.invariant-loop-pair
 invariant-loop-pair l = record {
-  ready : JudgeIsReady l.judge;
-  tells : JudgeIsTold l.fn.judge l.judge (map pair_event (take l.pair-index l.pairs));
+  ready : JudgeIsReady l.doc l.judge;
+  tells : JudgeIsTold l.doc l.fn.judge l.judge (map pair_event (take l.pair-index l.pairs));
 }

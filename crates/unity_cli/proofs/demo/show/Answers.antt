@@ -1,6 +1,6 @@
-use Rattle.std.proofs.Common.{rules, ◌≡◌, ◌++◌, ℕ, List, ◌∙◌, ap}
+use Rattle.std.proofs.Common.{rules, ◌≡◌, ◌++◌, ℕ, List, length, ◌∙◌, ap}
 use Rattle.cli_ring.specs.Rings.{ring_bytes}
-use Rattle.cli_texts.specs.Verdicts.{accepted_text}
+use Rattle.cli_texts.specs.Verdicts.{accepted_lines}
 use Rattle.unity_cli.specs.Answer.Demo.{ring_line}
 use Rattle.unity_cli.specs.Input.{words_in}
 use Rattle.unity_cli.proofs.Shown.{ring_read, shown_alone, shown_planned}
@@ -31,4 +31,7 @@ returns c =
     (c.in_ok-answer.ensures.answer (ring_bytes c.args.places) read.0 read.1) c.in_ok-answer.ensures.plan
     c.in-Some.is
     (c.in_ok-verdict.ensures
-    ∙ ap (λ (ws : List (List ℕ)). accepted_text ws c.in-Some.plan) c.words_of.ensures) whole
+    ∙ ap (λ (ws : List (List ℕ)). accepted_lines ws c.as_slice.result.now (length c.in-Some.plan.obligations))
+    c.words_of.ensures
+    ∙ ap (λ rs. accepted_lines (words_in c.in_ok-input.input) rs (length c.in-Some.plan.obligations))
+    c.as_slice.ensures) whole

@@ -1,14 +1,8 @@
 use Rattle.event_judge.proofs.MoveLaws.{inner-checked}
-use Rattle.event_judge.proofs.StandLaws.{on-both, ready-on}
+use Rattle.event_judge.proofs.StandLaws.{inner-idle, on-both}
 use Rattle.event_judge.proofs.judge.Judge.hand_on.Goals as goal
 
 pub returns-in-Some-clause-stands : goal.returns-in-Some-clause-stands
 returns-in-Some-clause-stands c = on-both c.take.result (λ more ready d t s.
     inner-checked d c.args.self.now t c.args.e c.in-Some.checker c.take.new.self c.requires.inner c.in-Some.is more
     ready s) c.take.ensures.stands c.take.ensures.ready
-
-pub returns-in-Some-clause-ready : goal.returns-in-Some-clause-ready
-returns-in-Some-clause-ready c = on-both c.take.result (λ more ready.
-    ready-on c.args.self.now _ c.args.e (λ d t s.
-    inner-checked d c.args.self.now t c.args.e c.in-Some.checker c.take.new.self c.requires.inner c.in-Some.is more
-    ready s) c.requires.ready) c.take.ensures.stands c.take.ensures.ready

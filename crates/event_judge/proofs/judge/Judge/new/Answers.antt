@@ -1,17 +1,18 @@
 use Rattle.std.proofs.Common.{refl}
 use Rattle.event_judge.specs.Told.{nothing_told}
-use Rattle.event_judge.proofs.BeginLaws.{begins}
-use Rattle.event_judge.proofs.PlannedLaws.{planned}
+use Rattle.event_judge.proofs.PlanLaws.{begins}
 use Rattle.event_judge.proofs.judge.Judge.new.Goals as goal
 
-pub returns-clause-stands : goal.returns-clause-stands
-returns-clause-stands c = begins c.args.doc.now _ (planned c.args.doc.now c.requires.document) c.in_ok-plan.ensures
-    c.most_levels.ensures refl refl refl
-
-pub returns-clause-ready : goal.returns-clause-ready
-returns-clause-ready c = record {
-  document = c.args.doc.now;
+pub plan_on-requires : goal.plan_on-requires
+plan_on-requires c = record {
+  core = c.requires.document;
   told = nothing_told;
-  stands = begins c.args.doc.now _ (planned c.args.doc.now c.requires.document) c.in_ok-plan.ensures
-      c.most_levels.ensures refl refl refl;
+  rests = begins c.args.doc.now _ refl refl c.new-2.ensures (c.new.ensures.left c.args.doc.now) c.new.ensures.records
+      c.most_levels.ensures refl;
 }
+
+pub returns-clause-stands : goal.returns-clause-stands
+returns-clause-stands c =
+    c.in_ok-plan_on.ensures.stands nothing_told
+    (begins c.args.doc.now _ refl refl c.new-2.ensures (c.new.ensures.left c.args.doc.now) c.new.ensures.records
+    c.most_levels.ensures refl)

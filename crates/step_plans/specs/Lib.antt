@@ -1,0 +1,4 @@
+pub mod Laws
+pub mod Planning
+pub mod Stepping
+pub mod Summaries
