@@ -120,6 +120,14 @@ impl Limits {
         true
     }
 
+    /// The multiples of limits on which an event rests; none for a fact.
+    pub fn reason_of(&self, event: Event) -> &[Weighted] {
+        match event.reason {
+            Reason::Item(_) => &[],
+            Reason::Sum(span) => self.weights(span),
+        }
+    }
+
     /// The greatest value of a sum of factors, or of its negative.
     pub fn reach(&self, factors: &[Factor], against: bool) -> Option<Reach> {
         let mut sum: i64 = 0;
@@ -190,6 +198,13 @@ impl Limits {
         Ok(())
     }
 
+    /// The number of an event that is kept aside: it is no limit of its way. An error where memory is refused.
+    pub fn add_aside(&mut self, event: Event) -> Result<usize, Stop> {
+        let number = self.events.len();
+        self.events.push(event)?;
+        Ok(number)
+    }
+
     /// Whether a limit contradicts the one from the other side.
     fn meet_opposite(&mut self, way: usize, limit: Limit) -> Result<(), Stop> {
         if let Some(other) = self.limit(opposite(way)) {
@@ -203,9 +218,14 @@ impl Limits {
         Ok(())
     }
 
+    /// Begins a clash with no event.
+    pub fn begin_sum(&mut self) {
+        self.clash.truncate(0);
+    }
+
     /// Begins a clash with an event.
     pub fn begin_clash(&mut self, event: usize) -> Result<(), Stop> {
-        self.clash.truncate(0);
+        self.begin_sum();
         self.add_clash(1, event)
     }
 
@@ -323,13 +343,24 @@ impl Limits {
     pub fn take_back(&mut self, mark: LimitsMark) {
         for _ in mark.events..self.events.len() {
             if let Some(event) = self.events.pop() {
-                let limit = self.limit_before(event);
-                put(&mut self.tightest, event.way, limit);
+                let number = self.events.len();
+                self.forget(event, number);
             }
         }
         self.reasons.truncate(mark.reasons);
         self.conflict = None;
         self.queue.clear();
+    }
+
+    /// Takes back the limit that an event of this number gave, unless it was kept aside.
+    fn forget(&mut self, event: Event, number: usize) {
+        if self
+            .limit(event.way)
+            .is_some_and(|limit| limit.event == number)
+        {
+            let limit = self.limit_before(event);
+            put(&mut self.tightest, event.way, limit);
+        }
     }
 
     /// The limit that an event replaced.

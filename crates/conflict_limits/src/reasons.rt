@@ -2,7 +2,7 @@
 //! rounded.
 use crate::events::{Event, Reason, Weighted};
 use crate::limits::Limits;
-use crate::rounds::{Pair, Round, Source, in_order};
+use crate::rounds::{Pair, Round, Source};
 use conflict_tables::{Stop, at, common_divisor, plus, put, repeated, times};
 use std::alloc::Global;
 use unity_base::Seq;
@@ -303,7 +303,7 @@ fn round_of(
     }
 }
 
-/// The pairs of a sum that a clash of limits comes from, and the rounds before it, each behind those that it rests on.
+/// The pairs of a sum that a clash of limits comes from, and the rounds that it rests on, in no order.
 pub fn explained(
     alloc: Global,
     limits: &Limits,
@@ -328,5 +328,5 @@ pub fn explained(
         };
         rounds.push(round_of(alloc, limits, number, &mut multiples, &mut rounded)?)?;
     }
-    in_order(alloc, &rounds, &taking.pairs)
+    Ok((rounds, taking.pairs))
 }

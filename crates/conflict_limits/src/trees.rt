@@ -1,10 +1,12 @@
 //! Refutations that were found: trees whose nodes name facts and waiting formulas by their places among the items of
 //! the path, so that a node that is dropped changes no name.
+use crate::copies::tied;
 use crate::events::Conflict;
 use crate::limits::Limits;
+use crate::path::Path;
 use crate::reasons::explained;
-use crate::rounds::{Pair, Round, Source};
-use conflict_tables::{Opened, Span, Stop, append, at, items_in};
+use crate::rounds::{Pair, Round, Source, in_order};
+use conflict_tables::{Span, Stop, Table, append, at, items_in};
 use std::alloc::{AllocError, Global};
 use unity_base::Seq;
 
@@ -36,8 +38,10 @@ pub enum Step {
     Quotient {
         /// The place of the formula's item.
         item: usize,
-        /// What the formula becomes.
-        opened: Opened,
+        /// The number of the variable that stands for it.
+        variable: usize,
+        /// The number of the formula without it.
+        rest: usize,
     },
 }
 
@@ -122,6 +126,22 @@ fn insert_items(list: &mut Seq<usize>, pairs: &[Pair]) -> Result<(), AllocError>
     Ok(())
 }
 
+/// The rounds and the sum that a conflict comes from. `Odd` where there is none, or a number has more than 64 bits.
+fn reasons_of(alloc: Global, limits: &Limits) -> Result<(Seq<Round>, Seq<Pair>), Stop> {
+    match limits.conflict {
+        None => Err(Stop::Odd),
+        Some(Conflict::Item(item)) => {
+            let mut sum = Seq::new(alloc);
+            sum.push(Pair {
+                times: 1,
+                source: Source::Item(item),
+            })?;
+            Ok((Seq::new(alloc), sum))
+        }
+        Some(Conflict::Clash { spare }) => explained(alloc, limits, spare),
+    }
+}
+
 impl Trees {
     /// The tree of a number. `Odd` where there is none.
     pub fn tree(&self, number: usize) -> Result<Tree, Stop> {
@@ -157,26 +177,21 @@ impl Trees {
 
     /// The number of a new leaf that closes a branch by a conflict of its limits. `Odd` where there is none, or a
     /// number has more than 64 bits.
-    pub fn add_leaf(&mut self, alloc: Global, limits: &Limits) -> Result<usize, Stop> {
-        match limits.conflict {
-            None => Err(Stop::Odd),
-            Some(Conflict::Item(item)) => {
-                let mut pairs = Seq::new(alloc);
-                pairs.push(Pair {
-                    times: 1,
-                    source: Source::Item(item),
-                })?;
-                self.add_chain(alloc, &Seq::new(alloc), &pairs)
-            }
-            Some(Conflict::Clash { spare }) => {
-                let (rounds, pairs) = explained(alloc, limits, spare)?;
-                self.add_chain(alloc, &rounds, &pairs)
-            }
-        }
+    pub fn add_leaf(
+        &mut self,
+        alloc: Global,
+        table: &Table,
+        path: &Path,
+        limits: &Limits,
+    ) -> Result<usize, Stop> {
+        let (rounds, sum) = reasons_of(alloc, limits)?;
+        let (rounds, sum) = tied(alloc, table, path, rounds, sum)?;
+        let (rounds, sum) = in_order(alloc, &rounds, &sum)?;
+        self.add_chain(alloc, &rounds, &sum)
     }
 
     /// The number of a new leaf of rounds and a sum. An error where memory is refused.
-    pub fn add_chain(
+    fn add_chain(
         &mut self,
         alloc: Global,
         rounds: &Seq<Round>,

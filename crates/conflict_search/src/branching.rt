@@ -2,7 +2,9 @@
 use crate::ends::Truth;
 use crate::looks::look_at;
 use crate::refuting::{Search, Waiting};
-use conflict_tables::{Form, Opened, Stop, at, opened_by, sides_of, way_of};
+use conflict_tables::{
+    Form, Opened, Stop, at, sides_of, way_of, without_quotient, without_quotient_by,
+};
 
 /// A step of the search.
 #[derive(Clone, Copy)]
@@ -21,11 +23,12 @@ pub enum Move {
         at: i64,
         facts: (usize, usize),
     },
-    /// Takes a quotient of the formula that waits at a place.
+    /// Takes a quotient of the formula that waits at a place, and of the same with copies.
     Quotient {
         place: usize,
         item: usize,
         opened: Opened,
+        own: Opened,
     },
 }
 
@@ -69,15 +72,29 @@ struct Best {
     count: u32,
 }
 
+/// What a formula with copies becomes where its first quotient is taken: by a new copy, where the quotient was taken
+/// before.
+fn own_opened(search: &mut Search, waiting: Waiting, variable: usize) -> Result<Opened, Stop> {
+    if search.path.has_taken(variable) {
+        let taken = search.path.quotients().len();
+        let copy = search.table.added_variable(taken)?;
+        return without_quotient_by(&mut search.table, waiting.own, Some(copy));
+    }
+    if waiting.own == waiting.form {
+        return without_quotient(&mut search.table, waiting.form);
+    }
+    without_quotient_by(&mut search.table, waiting.own, Some(variable))
+}
+
 /// Taking a quotient.
 fn quotient_move(search: &mut Search, place: usize, waiting: Waiting) -> Result<Urgency, Stop> {
-    let taken = search.variables.len().saturating_sub(search.own);
-    let variable = search.table.added_variable(taken)?;
-    let opened = opened_by(&mut search.table, waiting.form, variable)?;
+    let opened = without_quotient(&mut search.table, waiting.form)?;
+    let own = own_opened(search, waiting, opened.variable)?;
     Ok(Urgency::Now(Move::Quotient {
         place,
         item: waiting.item,
         opened,
+        own,
     }))
 }
 

@@ -4,12 +4,10 @@
 #![tactic(auto)]
 
 mod branching;
-mod elimination;
 mod ends;
 mod looks;
 mod proposing;
 mod refuting;
-mod twins;
 mod writing;
 
 pub use proposing::{Proposal, propose};

@@ -6,6 +6,7 @@ use crate::ends::{
 use conflict_limits::{Limits, has_partner};
 use conflict_tables::{
     Fact, Form, Part, Relation, Stop, Table, is_against, line_of, opposite, put, sides_of,
+    without_quotient,
 };
 use std::alloc::Global;
 use unity_base::Seq;
@@ -255,6 +256,27 @@ fn look_at_choice(
     look_at_two(depth, table, limits, looks, a, b, Truth::True)
 }
 
+/// Whether a relation of a sum with a quotient holds: by the ends of the sum, else by what it is without the quotient.
+#[cycle(looking)]
+fn look_at_quotient(
+    depth: u32,
+    table: &mut Table,
+    limits: &mut Limits,
+    looks: &mut Looks,
+    form: usize,
+    relation: Relation,
+    term: usize,
+) -> Result<Truth, Stop> {
+    let truth = truth_of(relation, term_ends(depth, table, limits, looks, term)?);
+    if truth != Truth::Open {
+        return Ok(truth);
+    }
+    let rest = without_quotient(table, form)?.rest;
+    limits.grow(table)?;
+    looks.grow(table.count_forms())?;
+    look_into(depth, table, limits, looks, rest)
+}
+
 /// Whether a formula holds, looked at anew.
 #[cycle(looking)]
 fn look_anew(
@@ -284,8 +306,7 @@ fn look_anew(
             look_at_choice(depth, table, limits, looks, number, relation, term)
         }
         Form::Quotient(relation, term) => {
-            let ends = term_ends(depth, table, limits, looks, term)?;
-            Ok(truth_of(relation, ends))
+            look_at_quotient(depth, table, limits, looks, number, relation, term)
         }
     }
 }

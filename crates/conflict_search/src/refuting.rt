@@ -1,10 +1,12 @@
 //! The search itself, one turn after the other: down to a conflict, and up with the tree that closes it. A step whose
 //! additions the tree below does not use is dropped, and its other side is not searched.
 use crate::branching::{Move, split_move, waiting_move};
-use crate::elimination::eliminated;
 use crate::looks::{Looks, no_looks};
-use crate::twins::link_twins;
-use conflict_limits::{Limits, LimitsMark, Step, Trees, no_limits, no_trees, propagate};
+use conflict_cuts::eliminate;
+use conflict_limits::{
+    Limits, LimitsMark, Path, PathMark, Quotient, Step, Trees, no_limits, no_path, no_trees,
+    propagate,
+};
 use conflict_tables::{Form, Opened, Stop, Table, put};
 use obligations::Variable;
 use std::alloc::{AllocError, Global};
@@ -13,19 +15,24 @@ use unity_base::Seq;
 /// How many steps a path may have.
 const DEPTH: usize = 960;
 
-/// A waiting formula: the place of its item, and whether it was taken apart.
+/// From how many units on a leaf is long.
+const LONG: u64 = 16;
+
+/// A waiting formula: the place of its item, the formula itself, that with copies of quotients, and whether it was
+/// taken apart.
 #[derive(Clone, Copy)]
 pub struct Waiting {
     pub item: usize,
     pub form: usize,
+    pub own: usize,
     pub taken: bool,
 }
 
-/// A fact of the path: the place of its item, and its number.
+/// A formula in which each quotient has its first variable, and the same with copies.
 #[derive(Clone, Copy)]
-pub struct PathFact {
-    pub item: usize,
-    pub fact: usize,
+struct Settled {
+    form: usize,
+    own: usize,
 }
 
 /// A state of a path.
@@ -33,11 +40,9 @@ pub struct PathFact {
 struct Mark {
     limits: LimitsMark,
     looks: usize,
-    items: usize,
-    path: usize,
+    path: PathMark,
     waiting: usize,
     variables: usize,
-    quotients: usize,
 }
 
 /// A step of the path: what it does, the state before, and the tree of the side that went first, where that is done.
@@ -56,20 +61,16 @@ pub struct Search {
     pub limits: Limits,
     pub looks: Looks,
     pub trees: Trees,
-    /// How many items the path has.
-    pub items: usize,
-    pub path: Seq<PathFact>,
+    pub path: Path,
     pub waiting: Seq<Waiting>,
-    /// The variables, and those of quotients that were taken.
+    /// The variables, and those of quotients that were taken, without copies.
     pub variables: Seq<usize>,
-    /// The quotients that were taken.
-    pub quotients: Seq<Opened>,
     /// How many variables the obligation has.
     pub own: usize,
     /// How often each formula was taken apart in the best tree before.
     pub counts: Seq<u32>,
     frames: Seq<Frame>,
-    todo: Seq<usize>,
+    todo: Seq<Settled>,
 }
 
 /// How a search ended.
@@ -101,11 +102,9 @@ pub fn new_search(
         limits: no_limits(alloc, steps)?,
         looks: no_looks(alloc),
         trees: no_trees(alloc),
-        items: 0,
-        path: Seq::new(alloc),
+        path: no_path(alloc),
         waiting: Seq::new(alloc),
         variables: Seq::new(alloc),
-        quotients: Seq::new(alloc),
         own,
         counts: Seq::new(alloc),
         frames: Seq::new(alloc),
@@ -114,54 +113,69 @@ pub fn new_search(
 }
 
 impl Search {
-    /// Adds a fact.
-    pub fn add_fact(&mut self, number: usize) -> Result<(), Stop> {
+    /// Adds a fact, and the same with copies of quotients.
+    fn add_fact_with(&mut self, number: usize, own: usize) -> Result<(), Stop> {
         let fact = self.table.fact(number)?;
         self.limits.grow(&self.table)?;
-        let item = self.items;
-        self.items = item.saturating_add(1);
-        self.path.push(PathFact { item, fact: number })?;
+        let item = self.path.add_item(Some(own))?;
         self.limits.add_fact(&self.table, fact, item)
     }
 
+    /// Adds a fact.
+    fn add_fact(&mut self, number: usize) -> Result<(), Stop> {
+        self.add_fact_with(number, number)
+    }
+
     /// Adds a formula that waits.
-    fn add_waiting(&mut self, form: usize) -> Result<(), Stop> {
-        let item = self.items;
-        self.items = item.saturating_add(1);
+    fn add_waiting(&mut self, settled: Settled) -> Result<(), Stop> {
+        let item = self.path.add_item(None)?;
         self.waiting.push(Waiting {
             item,
-            form,
+            form: settled.form,
+            own: settled.own,
             taken: false,
         })?;
         Ok(())
     }
 
+    /// Puts the parts of a formula on the list of what is to be settled.
+    fn settle_parts(&mut self, parts: (usize, usize), own: (usize, usize)) -> Result<(), Stop> {
+        self.todo.push(Settled {
+            form: parts.1,
+            own: own.1,
+        })?;
+        self.todo.push(Settled {
+            form: parts.0,
+            own: own.0,
+        })?;
+        Ok(())
+    }
+
     /// Adds what one formula adds, and puts its parts on the list of what is to be settled.
-    fn settle_one(&mut self, number: usize) -> Result<(), Stop> {
-        match self.table.form(number)? {
-            Form::True => Ok(()),
-            Form::False => {
+    fn settle_one(&mut self, settled: Settled) -> Result<(), Stop> {
+        match (
+            self.table.form(settled.form)?,
+            self.table.form(settled.own)?,
+        ) {
+            (Form::True, _) => Ok(()),
+            (Form::False, _) => {
                 let fact = self.table.false_fact()?;
                 self.add_fact(fact)
             }
-            Form::Both(a, b) => {
-                self.todo.push(b)?;
-                self.todo.push(a)?;
-                Ok(())
+            (Form::Both(a, b), Form::Both(c, d)) => self.settle_parts((a, b), (c, d)),
+            (Form::Fact(fact), Form::Fact(own)) => self.add_fact_with(fact, own),
+            (Form::Equal(a, b), Form::Equal(c, d)) => {
+                self.add_fact_with(a, c)?;
+                self.add_fact_with(b, d)
             }
-            Form::Fact(fact) => self.add_fact(fact),
-            Form::Equal(a, b) => {
-                self.add_fact(a)?;
-                self.add_fact(b)
-            }
-            _ => self.add_waiting(number),
+            _ => self.add_waiting(settled),
         }
     }
 
-    /// Settles a formula.
-    pub fn settle(&mut self, form: usize) -> Result<(), Stop> {
+    /// Settles a formula, and the same with copies of quotients.
+    fn settle_with(&mut self, form: usize, own: usize) -> Result<(), Stop> {
         self.todo.truncate(0);
-        self.todo.push(form)?;
+        self.todo.push(Settled { form, own })?;
         for _ in 0..u64::MAX {
             let Some(next) = self.todo.pop() else {
                 return Ok(());
@@ -171,26 +185,47 @@ impl Search {
         Ok(())
     }
 
+    /// Settles a formula.
+    fn settle(&mut self, form: usize) -> Result<(), Stop> {
+        self.settle_with(form, form)
+    }
+
+    /// Takes a quotient: where the same was taken before, limits get nothing of the copy.
+    fn take_quotient(&mut self, opened: Opened, own: Opened) -> Result<(), Stop> {
+        let item = self.path.mark().items();
+        self.path.add_quotient(Quotient {
+            variable: own.variable,
+            first: opened.variable,
+            divisor: own.divisor,
+            item,
+        })?;
+        if own.variable == opened.variable {
+            self.variables.push(own.variable)?;
+            self.add_fact_with(opened.low, own.low)?;
+            self.add_fact_with(opened.high, own.high)?;
+        } else {
+            let _ = self.path.add_item(Some(own.low))?;
+            let _ = self.path.add_item(Some(own.high))?;
+        }
+        self.settle_with(opened.rest, own.rest)
+    }
+
     fn mark(&self) -> Mark {
         Mark {
             limits: self.limits.mark(),
             looks: self.looks.mark(),
-            items: self.items,
-            path: self.path.len(),
+            path: self.path.mark(),
             waiting: self.waiting.len(),
             variables: self.variables.len(),
-            quotients: self.quotients.len(),
         }
     }
 
     fn take_back(&mut self, mark: Mark) {
         self.limits.take_back(mark.limits);
         self.looks.take_back(mark.looks);
-        self.items = mark.items;
-        self.path.truncate(mark.path);
+        self.path.take_back(mark.path);
         self.waiting.truncate(mark.waiting);
         self.variables.truncate(mark.variables);
-        self.quotients.truncate(mark.quotients);
     }
 
     /// Says whether the formula that a step takes apart is taken.
@@ -208,13 +243,7 @@ impl Search {
         match step {
             Move::Case { sides, .. } => self.settle(if second { sides.1 } else { sides.0 }),
             Move::Split { facts, .. } => self.add_fact(if second { facts.1 } else { facts.0 }),
-            Move::Quotient { opened, .. } => {
-                self.variables.push(opened.variable)?;
-                self.add_fact(opened.low)?;
-                self.add_fact(opened.high)?;
-                link_twins(self, opened)?;
-                self.settle(opened.rest)
-            }
+            Move::Quotient { opened, own, .. } => self.take_quotient(opened, own),
         }
     }
 
@@ -234,12 +263,43 @@ impl Search {
         Ok(Going::Down)
     }
 
+    /// A leaf for the conflict of the limits.
+    fn leaf(&mut self) -> Result<usize, Stop> {
+        self.trees
+            .add_leaf(self.alloc, &self.table, &self.path, &self.limits)
+    }
+
+    /// A leaf for a sum of limits with at most so many roundings that rest on each other, where it is shorter than
+    /// another; else that one.
+    fn shorter_leaf(&mut self, leaf: usize, most: u32) -> Result<usize, Stop> {
+        let units = self.trees.tree(leaf)?.units;
+        if units < LONG {
+            return Ok(leaf);
+        }
+        self.limits.conflict = None;
+        eliminate(self.alloc, &mut self.table, &mut self.limits, most)?;
+        if self.limits.conflict.is_none() {
+            return Ok(leaf);
+        }
+        let other = self.leaf()?;
+        let less = self.trees.tree(other)?.units < units;
+        Ok(if less { other } else { leaf })
+    }
+
+    /// A leaf for the conflict of the limits, or where it is long, for another one that rests on fewer roundings.
+    fn short_leaf(&mut self) -> Result<usize, Stop> {
+        let mut best = self.leaf()?;
+        for most in [1, 2, 4] {
+            best = self.shorter_leaf(best, most)?;
+        }
+        Ok(best)
+    }
+
     /// Goes down: to a leaf, to a step, or to the end. `None` at the end.
     fn go_down(&mut self) -> Result<Option<Going>, Stop> {
         propagate(&self.table, &mut self.limits)?;
         if self.limits.conflict.is_some() {
-            let leaf = self.trees.add_leaf(self.alloc, &self.limits)?;
-            return Ok(Some(Going::Up(leaf)));
+            return Ok(Some(Going::Up(self.short_leaf()?)));
         }
         match waiting_move(self)? {
             Some(step) => Ok(Some(self.begin(step)?)),
@@ -252,15 +312,20 @@ impl Search {
         let Some(step) = split_move(self)? else {
             return Ok(None);
         };
-        match eliminated(self)? {
-            Some(leaf) => Ok(Some(Going::Up(leaf))),
-            None => Ok(Some(self.begin(step)?)),
+        for most in [1, u32::MAX] {
+            if self.limits.conflict.is_none() {
+                eliminate(self.alloc, &mut self.table, &mut self.limits, most)?;
+            }
         }
+        if self.limits.conflict.is_some() {
+            return Ok(Some(Going::Up(self.leaf()?)));
+        }
+        Ok(Some(self.begin(step)?))
     }
 
     /// Goes up with a tree to the step above, of which it closes a side.
     fn close_side(&mut self, frame: Frame, tree: usize) -> Result<Going, Stop> {
-        let start = frame.mark.items;
+        let start = frame.mark.path.items();
         if !self.trees.uses_from(tree, start)? {
             self.set_taken(frame.taken, false);
             return Ok(Going::Up(tree));
@@ -288,7 +353,7 @@ impl Search {
     /// Joins the trees below a step.
     fn join(&mut self, frame: Frame, first: usize, second: usize) -> Result<Going, Stop> {
         self.set_taken(frame.taken, false);
-        let start = frame.mark.items;
+        let start = frame.mark.path.items();
         let tree = match frame.taken {
             Move::Case { item, form, .. } => {
                 let step = Step::Case { item, form };
@@ -300,8 +365,17 @@ impl Search {
                 self.trees
                     .add_two(self.alloc, step, None, start, (first, second))?
             }
-            Move::Quotient { item, opened, .. } => {
-                let step = Step::Quotient { item, opened };
+            Move::Quotient {
+                item,
+                opened,
+                own,
+                ..
+            } => {
+                let step = Step::Quotient {
+                    item,
+                    variable: own.variable,
+                    rest: opened.rest,
+                };
                 self.trees.add_one(self.alloc, step, item, start, first)?
             }
         };
@@ -337,11 +411,9 @@ impl Search {
         self.take_back(Mark {
             limits: LimitsMark::ROOT,
             looks: 0,
-            items: 0,
-            path: 0,
+            path: PathMark::ROOT,
             waiting: 0,
             variables: 0,
-            quotients: 0,
         });
     }
 

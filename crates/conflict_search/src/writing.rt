@@ -1,7 +1,7 @@
 //! The nodes of a certificate for a tree that was found: what is kept is settled once more, which gives each item its
 //! number.
 use conflict_limits::{Pair, Source, Step, Tree, Trees};
-use conflict_tables::{Form, Opened, Span, Stop, Table, at, put};
+use conflict_tables::{Form, Span, Stop, Table, at, put};
 use obligations::Node;
 use std::alloc::Global;
 use unity_base::Seq;
@@ -169,10 +169,10 @@ impl Writer {
                 self.settle(table, if second { sides.1 } else { sides.0 }, start)
             }
             Step::Split { .. } => self.add_fact(start),
-            Step::Quotient { opened, .. } => {
-                self.variables.push(opened.variable)?;
+            Step::Quotient { variable, rest, .. } => {
+                self.variables.push(variable)?;
                 let next = self.settle_facts(start, 2)?;
-                self.settle(table, opened.rest, next)
+                self.settle(table, rest, next)
             }
         }
     }

@@ -8,11 +8,12 @@ use crate::table::{Form, Opened, Part, Relation, Table};
 /// How deep quotients may stand within quotients.
 const DEPTH: u32 = 64;
 
-/// What a first quotient is of, and its divisor.
+/// What a first quotient is of, its divisor, and the variable in its place.
 #[derive(Clone, Copy)]
 struct Taken {
     of: usize,
     divisor: i64,
+    variable: usize,
 }
 
 /// What is put in the place of the first node of a kind in a sum.
@@ -20,8 +21,8 @@ struct Taken {
 enum Replacement {
     /// Of the first `Ite` its first part, or else its second.
     Part { first: bool },
-    /// Of the first quotient, operands before their operator, a variable.
-    Variable(usize),
+    /// Of the first quotient, operands before their operator, this variable, or else its own.
+    Variable(Option<usize>),
 }
 
 /// The node that was replaced.
@@ -178,15 +179,23 @@ fn add_opened(
     depth: u32,
     table: &mut Table,
     multiple: Multiple,
-    variable: usize,
+    variable: Option<usize>,
     sum: &mut Sum,
 ) -> Result<Option<Replaced>, Stop> {
     let Part::Quotient { of, divisor, rest } = table.part(multiple.part)? else {
         return Err(Stop::Odd);
     };
     if !table.term(of)?.has_quotient {
-        add_variable(table, of, divisor, rest, multiple.times, variable, sum)?;
-        return Ok(Some(Replaced::Quotient(Taken { of, divisor })));
+        let taken = Taken {
+            of,
+            divisor,
+            variable: match variable {
+                Some(copy) => copy,
+                None => table.quotient_variable(of, divisor)?,
+            },
+        };
+        add_variable(table, taken, rest, multiple.times, sum)?;
+        return Ok(Some(Replaced::Quotient(taken)));
     }
     if depth == 0 {
         return Err(Stop::Odd);
@@ -201,25 +210,23 @@ fn add_opened(
 /// Adds a multiple of the variable of a quotient, or of what is divided less the divisor times the variable.
 fn add_variable(
     table: &Table,
-    of: usize,
-    divisor: i64,
+    taken: Taken,
     rest: bool,
     by: i64,
-    variable: usize,
     sum: &mut Sum,
 ) -> Result<(), Stop> {
     if rest {
-        add_kept(table, of, by, sum)?;
-        sum.add_factor(variable, minus(times(divisor, by)?)?)
+        add_kept(table, taken.of, by, sum)?;
+        sum.add_factor(taken.variable, minus(times(taken.divisor, by)?)?)
     } else {
-        sum.add_factor(variable, by)
+        sum.add_factor(taken.variable, by)
     }
 }
 
 /// The two facts that fix the variable of a quotient.
-fn fixing_facts(table: &mut Table, taken: Taken, variable: usize) -> Result<(usize, usize), Stop> {
+fn fixing_facts(table: &mut Table, taken: Taken) -> Result<(usize, usize), Stop> {
     let mut sum = sum_of(table, taken.of)?;
-    sum.add_factor(variable, minus(taken.divisor)?)?;
+    sum.add_factor(taken.variable, minus(taken.divisor)?)?;
     let low = table.number_fact(&sum)?;
     sum.negate()?;
     sum.add_number(taken.divisor)?;
@@ -228,14 +235,13 @@ fn fixing_facts(table: &mut Table, taken: Taken, variable: usize) -> Result<(usi
     Ok((low, high))
 }
 
-/// What a formula with a quotient and no `Ite` becomes with this variable for its first quotient. `Odd` where it is
-/// none, a number has more than 64 bits, or quotients stand too deep.
-pub fn opened_by(table: &mut Table, form: usize, variable: usize) -> Result<Opened, Stop> {
-    if let Some(opened) = table.known_opened(form) {
-        if opened.variable == variable {
-            return Ok(opened);
-        }
-    }
+/// What a formula with a quotient and no `Ite` becomes with a variable for its first quotient: this one, or else its
+/// own. `Odd` where it is none, a number has more than 64 bits, or quotients stand too deep.
+pub fn without_quotient_by(
+    table: &mut Table,
+    form: usize,
+    variable: Option<usize>,
+) -> Result<Opened, Stop> {
     let Form::Quotient(relation, term) = table.form(form)? else {
         return Err(Stop::Odd);
     };
@@ -243,16 +249,24 @@ pub fn opened_by(table: &mut Table, form: usize, variable: usize) -> Result<Open
     let Some(Replaced::Quotient(taken)) = node else {
         return Err(Stop::Odd);
     };
-    let (low, high) = fixing_facts(table, taken, variable)?;
+    let (low, high) = fixing_facts(table, taken)?;
     let rest = relate(table, relation, &mut sum)?;
-    let opened = Opened {
-        of: taken.of,
+    Ok(Opened {
         divisor: taken.divisor,
-        variable,
+        variable: taken.variable,
         low,
         high,
         rest,
-    };
-    table.keep_opened(form, opened);
-    Ok(opened)
+    })
+}
+
+/// What a formula with a quotient and no `Ite` becomes with the variable of its first quotient. `Odd` where it is none,
+/// a number has more than 64 bits, or quotients stand too deep.
+pub fn without_quotient(table: &mut Table, form: usize) -> Result<Opened, Stop> {
+    if let Some(known) = table.known_opened(form) {
+        return Ok(known);
+    }
+    let found = without_quotient_by(table, form, None)?;
+    table.keep_opened(form, found);
+    Ok(found)
 }

@@ -10,16 +10,18 @@ mod masks;
 mod numbering;
 mod parts;
 mod places;
+mod quotients;
 mod relating;
 mod stop;
 mod sums;
 mod table;
 mod triangles;
 
-pub use choices::{opened_by, sides_of};
+pub use choices::{sides_of, without_quotient, without_quotient_by};
 pub use compiling::compile;
 pub use lists::{Span, append, at, common_divisor, items_in, minus, plus, put, repeated, times};
 pub use parts::Pair;
+pub use quotients::Divided;
 pub use stop::Stop;
 pub use sums::{Factor, Multiple, Sum, no_sum};
 pub use table::{

@@ -60,6 +60,14 @@ fn hash_of_form(form: Form) -> u64 {
     }
 }
 
+/// The hash of a quotient, or of what the division leaves.
+fn hash_of_quotient(of: usize, divisor: i64, rest: bool) -> u64 {
+    mixed(
+        hash_of_three(8, of, usize::from(rest)),
+        divisor.cast_unsigned(),
+    )
+}
+
 /// The greatest number that divides all factors.
 fn divisor_of(factors: &[Factor]) -> u64 {
     let mut divisor = 0;
@@ -144,10 +152,12 @@ impl Table {
         self.number_fact(&sum)
     }
 
-    /// The variables of a part.
+    /// The variables of a part, with that which stands for a quotient.
     fn mask_of_part(&self, number: usize) -> Result<u64, Stop> {
         match self.part(number)? {
-            Part::Quotient { of, .. } => Ok(self.term(of)?.mask),
+            Part::Quotient { of, divisor, .. } => {
+                Ok(self.term(of)?.mask | self.mask_of_quotient(of, divisor))
+            }
             Part::Choice {
                 yes,
                 no,
@@ -174,9 +184,33 @@ impl Table {
         }
     }
 
-    /// The number of a part. Equal ones may have several.
+    /// The number of a quotient, where it has one.
+    fn known_part(&self, hash: u64, part: Part) -> Result<Option<usize>, Stop> {
+        for step in 0..self.part_hashes.len() {
+            match self.part_hashes.probe(hash, step) {
+                Probe::Empty => break,
+                Probe::Other => {}
+                Probe::Number(number) => {
+                    if self.part(number)? == part {
+                        return Ok(Some(number));
+                    }
+                }
+            }
+        }
+        Ok(None)
+    }
+
+    /// The number of a part, which is added where it is new. An `Ite` is new each time.
     pub fn number_part(&mut self, part: Part) -> Result<usize, Stop> {
         let number = self.parts.len();
+        if let Part::Quotient { of, divisor, rest } = part {
+            let hash = hash_of_quotient(of, divisor, rest);
+            if let Some(known) = self.known_part(hash, part)? {
+                return Ok(known);
+            }
+            self.part_hashes.add(self.alloc, hash, number)?;
+            self.name_quotient(of, divisor)?;
+        }
         self.parts.push(part)?;
         Ok(number)
     }

@@ -1,6 +1,7 @@
 //! All formulas, facts and sums that a search speaks of, each with a number, and equal ones with the same.
 use crate::hashes::{Hashes, no_hashes};
 use crate::lists::{Span, append, at, items_in, put};
+use crate::quotients::Divided;
 use crate::stop::Stop;
 use crate::sums::{Factor, Multiple};
 use crate::triangles::Triangle;
@@ -117,12 +118,10 @@ pub struct Link {
     pub next: Option<usize>,
 }
 
-/// What a formula with a quotient becomes: what is divided, by what, the variable that stands for the quotient, the
-/// two facts that fix it, and the formula without it.
+/// What a formula with a quotient becomes: the variable that stands for the quotient, the two facts that fix it, and
+/// the formula without it.
 #[derive(Clone, Copy)]
 pub struct Opened {
-    /// The number of the sum that is divided.
-    pub of: usize,
     /// The divisor, at least 1.
     pub divisor: i64,
     /// The number of the variable that stands for the quotient.
@@ -158,13 +157,17 @@ pub struct Table {
     pub(crate) fact_hashes: Hashes,
     pub(crate) term_hashes: Hashes,
     pub(crate) form_hashes: Hashes,
+    pub(crate) part_hashes: Hashes,
+    /// The quotients that have a variable.
+    pub(crate) divided: Seq<Divided>,
+    pub(crate) divided_hashes: Hashes,
     /// The first link of each line that is a variable.
     pub(crate) heads: Seq<Option<usize>>,
     pub(crate) links: Seq<Link>,
     /// The first triangle of each line.
     pub(crate) corners: Seq<Option<usize>>,
     pub(crate) triangles: Seq<Triangle>,
-    /// The variables of quotients, by how many were taken before.
+    /// Variables that copy those of quotients, by how many quotients were taken before.
     pub(crate) added: Seq<usize>,
 }
 
@@ -206,6 +209,9 @@ pub fn new_table(alloc: Global, count: usize) -> Result<Table, Stop> {
         fact_hashes: no_hashes(alloc),
         term_hashes: no_hashes(alloc),
         form_hashes: no_hashes(alloc),
+        part_hashes: no_hashes(alloc),
+        divided: Seq::new(alloc),
+        divided_hashes: no_hashes(alloc),
         heads: Seq::new(alloc),
         links: Seq::new(alloc),
         corners: Seq::new(alloc),
@@ -241,8 +247,8 @@ impl Table {
         self.heads.push(None)
     }
 
-    /// The variable of a quotient before which so many were taken: the same each time. An error where memory is
-    /// refused.
+    /// The variable that copies that of a quotient before which so many were taken: the same each time. An error where
+    /// memory is refused.
     pub fn added_variable(&mut self, taken: usize) -> Result<usize, Stop> {
         match self.added.get(taken) {
             Some(variable) => Ok(*variable),

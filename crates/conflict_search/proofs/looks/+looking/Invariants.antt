@@ -10,6 +10,9 @@ decreases-look_anew l = 12 * l.depth + 11
 abbrev pub decreases-look_at_choice : goal.decreases-look_at_choice
 decreases-look_at_choice l = 12 * l.depth + 10
 
+abbrev pub decreases-look_at_quotient : goal.decreases-look_at_quotient
+decreases-look_at_quotient l = 12 * l.depth + 10
+
 abbrev pub decreases-look_at_two : goal.decreases-look_at_two
 decreases-look_at_two l = 12 * l.depth + 9
 
