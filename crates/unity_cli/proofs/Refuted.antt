@@ -9,7 +9,7 @@ use Rattle.obligations.specs.Opening.{in_ranges}
 use Rattle.obligations.specs.Obligations.{IsObligation}
 use Rattle.search_tree.specs.Searching.{Counterexample}
 use Rattle.cli_texts.specs.from_proof_plans.Reaching.{reach_of, reached}
-use Rattle.event_judge.proofs.PlannedLaws.{makeable_of}
+use Rattle.proof_script.proofs.PlannedLaws.{makeable_of}
 use Rattle.solver_scripts.specs.Naming.{Naming}
 use Rattle.solver_scripts.specs.Terms.{Assignment}
 use Rattle.solver_scripts.specs.Laws.{values_of, meets, AreNamedApart, IsUnsat}

@@ -31,6 +31,7 @@ returns c =
     (c.in_ok-answer.ensures.answer (ring_bytes c.args.places) read.0 read.1) c.in_ok-answer.ensures.plan
     c.in-Some.is
     (c.in_ok-verdict.ensures
+    ∙ ap (λ (n : ℕ). accepted_lines c.words_of.result.now c.as_slice.result.now n) c.len-obligations.ensures
     ∙ ap (λ (ws : List (List ℕ)). accepted_lines ws c.as_slice.result.now (length c.in-Some.plan.obligations))
     c.words_of.ensures
     ∙ ap (λ rs. accepted_lines (words_in c.in_ok-input.input) rs (length c.in-Some.plan.obligations))
