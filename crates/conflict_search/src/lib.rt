@@ -10,4 +10,4 @@ mod proposing;
 mod refuting;
 mod writing;
 
-pub use proposing::{Proposal, propose};
+pub use proposing::Conflicts;

@@ -3,21 +3,16 @@ use crate::refuting::{Ended, Search, new_search};
 use crate::writing::written;
 use conflict_limits::{Limits, Step, Trees};
 use conflict_tables::{Stop, Table, compile, new_table, put, repeated, way_of};
-use obligations::{Node, Obligation};
+use obligations::Obligation;
+use proof_search::{Proposal, Proposer};
 use std::alloc::{AllocError, Global};
 use unity_base::Seq;
 
 /// From how many units on a second search may be worth its time.
 const DEAR: u64 = 120;
 
-/// What is proposed.
-#[derive(Drop)]
-pub enum Proposal {
-    /// Nodes of a certificate.
-    Nodes(Seq<Node>),
-    /// Values that may make the form false, in the order of the variables.
-    Values(Seq<i64>),
-}
+/// How many looks a proposal may take.
+const LOOKS: u32 = 2_000_000;
 
 /// Counts how often each formula is taken apart in a tree.
 fn count_forms(alloc: Global, forms: usize, trees: &Trees, root: usize) -> Result<Seq<u32>, Stop> {
@@ -117,12 +112,17 @@ fn found(alloc: Global, o: &Obligation, limit: u32) -> Result<Proposal, Stop> {
     concluded(alloc, o, root, limit, &mut search)
 }
 
-/// Nodes that may refute an obligation, or values that may make its form false, by at most so many looks. `None` where
-/// none were found.
-pub fn propose(alloc: Global, o: &Obligation, limit: u32) -> Result<Option<Proposal>, AllocError> {
-    match found(alloc, o, limit) {
-        Ok(proposal) => Ok(Some(proposal)),
-        Err(Stop::Odd) => Ok(None),
-        Err(Stop::Memory) => Err(AllocError),
+/// The search by conflicts. It proposes nodes that may refute an obligation, or values that may make its form false, by
+/// at most 2,000,000 looks; and nothing where none were found.
+#[derive(Clone, Copy, Debug)]
+pub struct Conflicts;
+
+impl Proposer for Conflicts {
+    fn propose(&self, alloc: Global, o: &Obligation) -> Result<Option<Proposal>, AllocError> {
+        match found(alloc, o, LOOKS) {
+            Ok(proposal) => Ok(Some(proposal)),
+            Err(Stop::Odd) => Ok(None),
+            Err(Stop::Memory) => Err(AllocError),
+        }
     }
 }

@@ -5,8 +5,9 @@ ghost use Rattle.obligations.specs.Obligations.{IsObligation};
 ghost use Rattle.obligations.specs.declared.branches.Obligation.{Obligation};
 ghost use Rattle.proof_script.specs.Searches.{HasCertificates, Searches};
 
+use crate::offering::{Offers, find_at};
 use obligations::{Cert, Obligation, Variable, units};
-use proof_search::{Found, search};
+use proof_search::{Found, Proposer};
 use std::alloc::{AllocError, Global};
 use unity_base::Seq;
 
@@ -65,13 +66,19 @@ fn keep(cert: Cert, finding: &mut Finding) -> Result<(), AllocError>
 }
 
 // One obligation.
-fn find(alloc: Global, obligation: &Obligation, finding: &mut Finding) -> Result<(), Halt>
+fn find<P: Proposer>(
+    alloc: Global,
+    obligation: &Obligation,
+    offers: &mut Offers,
+    finding: &mut Finding,
+    proposer: &P,
+) -> Result<(), Halt>
     requires { IsObligation obligation.now }
     ensures { (before : List Obligation) → HasCertificates before finding.old →
         Searches result before (obligation.now ∷ []) finding.old finding.new }
 {
     let place = finding.certs.as_slice().len();
-    match search(alloc, obligation, finding.left) {
+    match find_at(alloc, obligation, finding.left, offers, place, proposer) {
         Ok(Found::Proved(cert)) => {
             keep(cert, finding)?;
             Ok(())
@@ -87,17 +94,19 @@ fn find(alloc: Global, obligation: &Obligation, finding: &mut Finding) -> Result
 }
 
 // Obligations, in order.
-pub(crate) fn find_all(
+pub(crate) fn find_all<P: Proposer>(
     alloc: Global,
     obligations: &[Obligation],
+    offers: &mut Offers,
     finding: &mut Finding,
+    proposer: &P,
 ) -> Result<(), Halt>
     requires { All IsObligation obligations.now }
     ensures { (before : List Obligation) → HasCertificates before finding.old →
         Searches result before obligations.now finding.old finding.new }
 {
     for obligation in obligations {
-        find(alloc, obligation, finding)?;
+        find(alloc, obligation, offers, finding, proposer)?;
     }
     Ok(())
 }

@@ -4,6 +4,7 @@
 mod checking;
 mod finding;
 mod laws;
+mod offering;
 mod plans;
 mod proving;
 mod telling;
@@ -13,5 +14,6 @@ pub use event_judge::Judge;
 pub use laws::search_laws;
 pub use plans::Proof;
 pub use proof_plans::{Plan, ScriptError, StepFault, walk};
-pub use proving::prove;
+pub use proof_search::{NoProposals, Proposer};
+pub use proving::{prove, repair};
 pub use step_plans::Summary;

@@ -12,9 +12,12 @@ ghost use Rattle.proof_script.specs.Proving.{Finds};
 ghost use Rattle.proof_script.specs.Searches.{Halts, HasCertificates};
 
 use crate::finding::{Finding, Halt, find_all};
+use crate::offering::Offers;
 use crate::plans::Proof;
 use core_terms::CDocument;
+use obligations::Cert;
 use proof_plans::{Plan, Planned, ScriptError, StepFault, plan_by_rules};
+use proof_search::Proposer;
 use std::alloc::Global;
 use unity_base::Seq;
 
@@ -123,13 +126,41 @@ fn ended(plan: Plan, stopped: Option<StepFault>, finding: Finding) -> Result<Pro
 /// the budget is less than what always suffices for the obligations up to it. The error is the first failure of a
 /// rule, a code from 30 to 42, or 36 with no step for a proof without a `defined` step, and then all obligations
 /// before it are valid; or `Memory`, where memory was refused.
-pub fn prove(alloc: Global, doc: &CDocument, budget: u64) -> Result<Proof, ScriptError>
+pub fn prove<P: Proposer>(
+    alloc: Global,
+    doc: &CDocument,
+    budget: u64,
+    proposer: &P,
+) -> Result<Proof, ScriptError>
+    requires document { IsCoreDocument doc.now }
+    ensures { Finds doc.now budget result }
+{
+    repair(alloc, doc, Vec::new(alloc), budget, proposer)
+}
+
+/// Finds certificates as `prove` does, and offers those that are at hand first: to each obligation the next that no
+/// obligation took, a few behind it, and the one that stands as far from the end. One that refutes is kept, unless the
+/// plain tree has a smaller one where its units are not seen to be within what always suffices; its units count. Only
+/// where none refutes is there a search.
+pub fn repair<P: Proposer>(
+    alloc: Global,
+    doc: &CDocument,
+    certs: Vec<Cert>,
+    budget: u64,
+    proposer: &P,
+) -> Result<Proof, ScriptError>
     requires document { IsCoreDocument doc.now }
     ensures { Finds doc.now budget result }
 {
     let Planned { plan, stopped } = plan_by_rules(alloc, doc)?;
+    let mut offers = Offers {
+        certs,
+        obligations: plan.obligations.len(),
+        next: 0,
+    };
     let mut finding = new_finding(alloc, budget);
-    match find_all(alloc, plan.obligations.as_slice(), &mut finding) {
+    let obligations = plan.obligations.as_slice();
+    match find_all(alloc, obligations, &mut offers, &mut finding, proposer) {
         Ok(()) => ended(plan, stopped, finding),
         Err(halt) => halted(&plan, halt, finding),
     }

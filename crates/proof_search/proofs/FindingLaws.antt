@@ -1,5 +1,5 @@
 -- What the searches find.
-use Rattle.std.proofs.Common.{◌≡◌, ℕ, ◌+◌, ◌-◌, ◌*◌, ◌≤◌, ◌<◌, min, true, Ok, List, []}
+use Rattle.std.proofs.Common.{◌≡◌, ℕ, ◌+◌, ◌-◌, ◌*◌, ◌≤◌, ◌<◌, ◌^◌, min, true, Ok, List, []}
 use Rattle.std.proofs.Common.{length, mul-le-mul, le_refl, arith}
 use Rattle.std.proofs.Math.Nat.{mul-le-mul_right}
 use Rattle.std.specs.List.{list_all}
@@ -16,7 +16,7 @@ use Rattle.search_tree.specs.declared.searching.Found.{Found}
 use Rattle.search_tree.specs.Searching.{Proof, SearchAnswers, is_found_node}
 use Rattle.search_tree.proofs.ReadyLaws.{leaves-some}
 use Rattle.search_tree.proofs.EnoughLaws.{enough-below}
-use Rattle.proof_search.specs.Judging.{IsWholeWalk, chosen_of}
+use Rattle.proof_search.specs.Judging.{IsWalkWithin, IsWholeWalk, chosen_of}
 use Rattle.proof_search.proofs.PlainWalks.{plain-walked}
 
 proof-of : (o : Obligation) (budget : ℕ) (nodes : List Node) → IsObligation o → IsWholeWalk o nodes → units nodes ≤
@@ -99,4 +99,13 @@ pub walked-whole : (o : Obligation) (nodes : List Node) → is_whole nodes 1 ≡
 walked-whole o nodes w f e =
     record { whole = w; walked = e; found = f; plain = plain-walked o nodes w e f }
 
-pub ruleset judged_laws = walked-whole
+pub walked-within : (o : Obligation) (budget total : ℕ) (nodes : List Node) → total ≡ min (units nodes) (2 ^ 64 - 1) →
+    total ≤ budget → (total ≡ 2 ^ 64 - 1 → ⊥) → is_whole nodes 1 ≡ true → list_all is_found_node nodes ≡ true →
+    walk_from_root 1024 o nodes ≡ Ok [] → IsWalkWithin o budget nodes total
+walked-within o budget total nodes t h n w f e = record {
+  total_is = omega (arith, t, n);
+  within = h;
+  walk = walked-whole o nodes w f e;
+}
+
+pub ruleset judged_laws = (walked-whole, walked-within)

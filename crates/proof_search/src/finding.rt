@@ -1,23 +1,21 @@
 //! The search. A certificate that is proposed is handed out only where the checker takes it, and where it is no larger
 //! than the plain tree allows.
-ghost use Rattle.std.specs.Prelude.{◌≡◌, ℕ, ◌+◌, ◌-◌, ◌≤◌, ◌<◌, ◌^◌, length, true, false, IfOk, IfSome};
+ghost use Rattle.std.specs.Prelude.{◌≡◌, ℕ, ◌+◌, ◌-◌, ◌≤◌, ◌<◌, ◌^◌, length, true, false, IfOk, IfSome, None};
 ghost use Rattle.obligations.specs.Certificates.{units};
 ghost use Rattle.obligations.specs.Obligations.{AreVariables, IsObligation};
 ghost use Rattle.obligations.specs.Plain.{enough};
 ghost use Rattle.search_tree.specs.Searching.{SearchAnswers};
-ghost use Rattle.proof_search.specs.Judging.{chosen_of, IsWholeWalk};
+ghost use Rattle.proof_search.specs.Judging.{chosen_of, IsWalkWithin, IsWholeWalk};
 
 use crate::nodes::{are_found, is_tree};
+use crate::proposing::{Proposal, Proposer};
 use crate::values::{are_inside, form_at};
 use certificate_check::{CertError, check_cert};
-use conflict_search::{Proposal, propose};
 use obligations::{Cert, Node, Obligation, Variable, units};
 use search_tree::{Found, count_leaves, search_tree};
 use std::alloc::{AllocError, Global};
+use std::mem;
 use unity_base::Seq;
-
-/// How many looks a proposal may take.
-const LOOKS: u32 = 2_000_000;
 
 /// What a search of the plain tree found, and in place of an ended budget the certificate of these nodes.
 fn chosen(found: Found, nodes: Seq<Node>) -> Found
@@ -76,20 +74,19 @@ fn allowed(
     Ok(chosen(found, nodes))
 }
 
-/// A certificate of nodes that were proposed, or a smaller one. `None` where they don't refute the obligation within
-/// the budget.
+/// The units of a certificate that refutes the obligation, by the checker's own call. `None` where it doesn't within the
+/// budget, or where it has nodes or levels that a search writes none of.
 #[tactic(auto, using(crate::proofs::FindingLaws::judged_laws))]
-fn judged(
+fn refuting(
     alloc: Global,
     o: &Obligation,
     budget: u64,
-    nodes: Seq<Node>,
-) -> Result<Option<Found>, AllocError>
+    cert: &Cert,
+) -> Result<Option<u64>, AllocError>
     requires { IsObligation o.now }
-    ensures { IfOk result (λ found. IfSome found (SearchAnswers o.now budget)) }
+    ensures { IfOk result (λ total. IfSome total (IsWalkWithin o.now budget cert.now.nodes)) }
 {
-    let cert = Cert { nodes };
-    let total = units(&cert);
+    let total = units(cert);
     if total > budget || total == u64::MAX {
         return Ok(None);
     }
@@ -97,14 +94,33 @@ fn judged(
     if !is_tree(nodes) || !are_found(nodes) {
         return Ok(None);
     }
-    match check_cert(alloc, o, &cert, 1024) {
-        Ok(()) => {
-            let Cert { nodes } = cert;
+    match check_cert(alloc, o, cert, 1024) {
+        Ok(()) => Ok(Some(total)),
+        Err(CertError::Memory) => Err(AllocError),
+        Err(CertError::Fault { .. }) => Ok(None),
+    }
+}
+
+/// What a certificate that is at hand finds of an obligation: that it is proved with it, or with a smaller one. `None`
+/// where it does not refute the obligation within the budget, or has nodes or levels that a search writes none of; then
+/// it is as it was. Else its nodes are handed out, and none is left.
+pub fn offered(
+    alloc: Global,
+    o: &Obligation,
+    budget: u64,
+    cert: &mut Cert,
+) -> Result<Option<Found>, AllocError>
+    requires { IsObligation o.now }
+    ensures found { IfOk result (λ found. IfSome found (SearchAnswers o.now budget)) }
+    ensures stays { IfOk result (λ found. found ≡ None → cert.new ≡ cert.old) }
+{
+    match refuting(alloc, o, budget, cert)? {
+        Some(total) => {
+            let nodes = mem::replace(&mut cert.nodes, Seq::new(alloc));
             let found = allowed(alloc, o, budget, total, nodes)?;
             Ok(Some(found))
         }
-        Err(CertError::Memory) => Err(AllocError),
-        Err(CertError::Fault { .. }) => Ok(None),
+        None => Ok(None),
     }
 }
 
@@ -120,12 +136,17 @@ fn tried(o: &Obligation, values: Seq<i64>) -> Option<Found>
 }
 
 /// What was proposed, where it is right.
-fn proposed(alloc: Global, o: &Obligation, budget: u64) -> Result<Option<Found>, AllocError>
+fn proposed<P: Proposer>(
+    alloc: Global,
+    o: &Obligation,
+    budget: u64,
+    proposer: &P,
+) -> Result<Option<Found>, AllocError>
     requires { IsObligation o.now }
     ensures { IfOk result (λ found. IfSome found (SearchAnswers o.now budget)) }
 {
-    match propose(alloc, o, LOOKS)? {
-        Some(Proposal::Nodes(nodes)) => judged(alloc, o, budget, nodes),
+    match proposer.propose(alloc, o)? {
+        Some(Proposal::Nodes(nodes)) => offered(alloc, o, budget, &mut Cert { nodes }),
         Some(Proposal::Values(values)) => Ok(tried(o, values)),
         None => Ok(None),
     }
@@ -133,12 +154,18 @@ fn proposed(alloc: Global, o: &Obligation, budget: u64) -> Result<Option<Found>,
 
 /// A certificate that refutes the obligation's first branch, within the budget and `enough`, whose numbers
 /// are within plus or minus 2^62; or values in the variables' ranges that make the form false; or the begin
-/// of a certificate, only where the budget is less than `enough`.
-pub fn search(alloc: Global, o: &Obligation, budget: u64) -> Result<Found, AllocError>
+/// of a certificate, only where the budget is less than `enough`. What is proposed is handed out only where it is
+/// right; else the plain tree is searched.
+pub fn search<P: Proposer>(
+    alloc: Global,
+    o: &Obligation,
+    budget: u64,
+    proposer: &P,
+) -> Result<Found, AllocError>
     requires { IsObligation o.now }
     ensures { IfOk result (SearchAnswers o.now budget) }
 {
-    match proposed(alloc, o, budget)? {
+    match proposed(alloc, o, budget, proposer)? {
         Some(found) => Ok(found),
         None => search_tree(alloc, o, budget),
     }

@@ -14,6 +14,7 @@ use crate::status::Status;
 use case_tables::Code;
 use certificate_printing::{budget_text, push_certificates, refuted_text};
 use cli_texts::{document_fault, input_refusal, rejected};
+use conflict_search::Conflicts;
 use obligations::Cert;
 use proof_script::{Plan, Proof, ScriptError, prove};
 use std::alloc::{AllocError, Global};
@@ -72,7 +73,7 @@ fn find_for(
     ensures answer { IfOk result (λ f. IsSearchedIn budget bytes.now reading.now f.answer) }
     ensures plan { IfOk result (HasPlan reading.now.core.words) }
 {
-    match prove(alloc, &reading.core, budget) {
+    match prove(alloc, &reading.core, budget, &Conflicts) {
         Ok(proof) => answered(alloc, budget, bytes, reading, proof),
         Err(ScriptError::Step(fault)) => {
             let words = reading.core.words.as_slice();

@@ -6,4 +6,4 @@ mod certificates;
 mod searches;
 
 pub use certificates::{check_cert, checker_finish, checker_take, new_checker};
-pub use searches::{close, search, search_tree};
+pub use searches::{close, offered, search, search_tree};

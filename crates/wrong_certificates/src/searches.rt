@@ -1,5 +1,5 @@
 // What finds certificates.
-ghost use Rattle.std.specs.Prelude.{◌≡◌, map, true, IfOk, IfSome, IsSomeAnd};
+ghost use Rattle.std.specs.Prelude.{◌≡◌, map, true, None, IfOk, IfSome, IsSomeAnd};
 ghost use Rattle.std.specs.List.{list_all};
 ghost use Rattle.obligations.specs.Obligations.{IsObligation};
 ghost use Rattle.obligations.specs.Reach.{some_out_of_reach};
@@ -7,7 +7,8 @@ ghost use Rattle.linear_prover.specs.Chains.{Closes, IsShort};
 ghost use Rattle.linear_prover.specs.Exact.{in_order, is_fact};
 ghost use Rattle.search_tree.specs.Searching.{SearchAnswers};
 
-use obligations::{Fact, Node, Obligation};
+use obligations::{Cert, Fact, Node, Obligation};
+use proof_search::Proposer;
 use search_tree::Found;
 use std::alloc::{AllocError, Global};
 use unity_base::Seq;
@@ -31,9 +32,28 @@ pub fn search_tree(alloc: Global, o: &Obligation, budget: u64) -> Result<Found, 
 }
 
 /// The call `search` of `proof_search`, with its clause.
-pub fn search(alloc: Global, o: &Obligation, budget: u64) -> Result<Found, AllocError>
+pub fn search<P: Proposer>(
+    alloc: Global,
+    o: &Obligation,
+    budget: u64,
+    proposer: &P,
+) -> Result<Found, AllocError>
     requires { IsObligation o.now }
     ensures { IfOk result (SearchAnswers o.now budget) }
 {
-    proof_search::search(alloc, o, budget)
+    proof_search::search(alloc, o, budget, proposer)
+}
+
+/// The call `offered` of `proof_search`, with its clauses.
+pub fn offered(
+    alloc: Global,
+    o: &Obligation,
+    budget: u64,
+    cert: &mut Cert,
+) -> Result<Option<Found>, AllocError>
+    requires { IsObligation o.now }
+    ensures found { IfOk result (λ found. IfSome found (SearchAnswers o.now budget)) }
+    ensures stays { IfOk result (λ found. found ≡ None → cert.new ≡ cert.old) }
+{
+    proof_search::offered(alloc, o, budget, cert)
 }

@@ -8,4 +8,4 @@ mod script;
 
 pub use documents::{judge_source, read_bytes, read_source};
 pub use judging::{judge_finish, judge_take};
-pub use script::{check, prove};
+pub use script::{check, prove, repair};

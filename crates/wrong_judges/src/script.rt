@@ -8,7 +8,7 @@ ghost use Rattle.step_plans.specs.Summaries.{SummaryAnswers, SummaryHolds};
 
 use core_terms::CDocument;
 use obligations::Cert;
-use proof_script::{Proof, ScriptError, Summary};
+use proof_script::{Proof, Proposer, ScriptError, Summary};
 use std::alloc::Global;
 
 /// The call `check` of `proof_script`, with its clauses.
@@ -22,9 +22,28 @@ pub fn check(alloc: Global, doc: &CDocument, certs: &[Cert]) -> Result<Summary, 
 }
 
 /// The call `prove` of `proof_script`, with its clause.
-pub fn prove(alloc: Global, doc: &CDocument, budget: u64) -> Result<Proof, ScriptError>
+pub fn prove<P: Proposer>(
+    alloc: Global,
+    doc: &CDocument,
+    budget: u64,
+    proposer: &P,
+) -> Result<Proof, ScriptError>
     requires document { IsCoreDocument doc.now }
     ensures { Finds doc.now budget result }
 {
-    proof_script::prove(alloc, doc, budget)
+    proof_script::prove(alloc, doc, budget, proposer)
+}
+
+/// The call `repair` of `proof_script`, with its clause.
+pub fn repair<P: Proposer>(
+    alloc: Global,
+    doc: &CDocument,
+    certs: Vec<Cert>,
+    budget: u64,
+    proposer: &P,
+) -> Result<Proof, ScriptError>
+    requires document { IsCoreDocument doc.now }
+    ensures { Finds doc.now budget result }
+{
+    proof_script::repair(alloc, doc, certs, budget, proposer)
 }

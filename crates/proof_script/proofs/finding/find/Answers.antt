@@ -8,7 +8,7 @@ use Rattle.proof_script.proofs.SearchLaws.{found_one, refuted_one, short_one}
 use Rattle.proof_script.proofs.finding.find.Goals as goal
 
 pub returns-in-Ok-Proved : goal.returns-in-Ok-Proved
-returns-in-Ok-Proved c before h =
+returns-in-Ok-Proved g c before h =
     let o : Obligation = c.args.obligation.now in
     let old : Finding = c.args.finding.now in
     found_one before o c.in-Ok-Proved.cert old c.keep.new.finding h c.requires
@@ -17,7 +17,7 @@ returns-in-Ok-Proved c before h =
     c.in_ok-keep-in-Ok-Proved.ensures.budget
 
 pub returns-in-Ok-Refuted : goal.returns-in-Ok-Refuted
-returns-in-Ok-Refuted c before h =
+returns-in-Ok-Refuted g c before h =
     let o : Obligation = c.args.obligation.now in
     let old : Finding = c.args.finding.now in
     let new : Finding = record {
@@ -32,7 +32,7 @@ returns-in-Ok-Refuted c before h =
     (ap (λ (cs : List Cert). length cs) c.as_slice-place.ensures) c.in_ok-finding-in-Ok-Refuted.ensures refl
 
 pub returns-in-Ok-Budget : goal.returns-in-Ok-Budget
-returns-in-Ok-Budget c before h =
+returns-in-Ok-Budget g c before h =
     let o : Obligation = c.args.obligation.now in
     let old : Finding = c.args.finding.now in
     short_one before o old old (length c.as_slice-place.result.now) c.in-Ok-Budget.field-0-0 h

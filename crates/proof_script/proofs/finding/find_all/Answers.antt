@@ -12,12 +12,12 @@ use Rattle.proof_script.proofs.SearchLaws.{halted_on, search_more}
 use Rattle.proof_script.proofs.finding.find_all.Goals as goal
 
 pub find-requires : goal.find-requires
-find-requires c =
+find-requires g c =
     item_has IsObligation c.args.obligations.now c.loop-obligation.obligation-index c.obligation-item.result
     c.loop-obligation-test.true c.obligation-item.is c.requires
 
 pub returns-in_err-find : goal.returns-in_err-find
-returns-in_err-find c before h =
+returns-in_err-find g c before h =
     let os : List Obligation = c.args.obligations.now in
     let i : ℕ = c.loop-obligation.obligation-index in
     let o : Obligation = c.obligation-item.result in
@@ -34,7 +34,7 @@ returns-in_err-find c before h =
     (c.in_err-find.ensures (before ++ take i os) so_far.0))
 
 pub loop-obligation-preserved : goal.loop-obligation-preserved
-loop-obligation-preserved c before h =
+loop-obligation-preserved g c before h =
     let os : List Obligation = c.args.obligations.now in
     let i : ℕ = c.loop-obligation.obligation-index in
     let o : Obligation = c.obligation-item.result in
@@ -49,11 +49,11 @@ loop-obligation-preserved c before h =
     )
 
 pub loop-obligation-init : goal.loop-obligation-init
-loop-obligation-init c before h =
+loop-obligation-init g c before h =
     (subst (λ (xs : List Obligation). HasCertificates xs c.args.finding.now) (no_more before) h, refl)
 
 pub returns : goal.returns
-returns c before h =
+returns g c before h =
     let os : List Obligation = c.args.obligations.now in
     let i : ℕ = c.loop-obligation.obligation-index in
     let so_far = c.loop-obligation.invariant before h in
