@@ -62,7 +62,7 @@ function embed(wanted) {
 
 // The boxes by which the address is made one with chosen buttons alone.
 function fillChosen() {
-  for (const it of ['check', 'prove', 'run', 'fixed', 'replay', 'watch', 'step', 'find']) {
+  for (const it of ['check', 'prove', 'repair', 'run', 'fixed', 'replay', 'watch', 'step', 'find']) {
     const box = element('input', '', { type: 'checkbox', value: it, onchange: makeLink }), label = element('label', '');
     label.append(box, ` ${get(it).textContent}`);
     get('chosen').append(label);

@@ -4,7 +4,8 @@ const VIOLATED = 10;
 
 // What an exit means, in words; `words` were asked.
 function inWords(words, status, answer) {
-  const done = { check: 'accepted', prove: 'proved: a certificate for each obligation', run: 'each step is defined',
+  const done = { check: 'accepted', prove: 'proved: a certificate for each obligation',
+    repair: 'proved: what holds of the certificates is kept', run: 'each step is defined',
     watch: 'no step of the proof is violated on this schedule',
     obligations: 'what is left to be shown, as a script for solvers' };
   if (status === 0 && /^accepted 0 steps/.test(answer)) return 'accepted; it has no proof, so it claims nothing';

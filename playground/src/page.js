@@ -65,7 +65,7 @@ function wireEditor() {
 
 function wireCommands() {
   get('check').onclick = () => ask('check');
-  get('prove').onclick = () => ask('prove', get('budget').value);
+  for (const it of ['prove', 'repair']) get(it).onclick = () => ask(it, get('budget').value);
   for (const it of ['run', 'fixed']) get(it).onclick = () => ask(it, get('program').value, get('steps').value);
   get('replay').onclick = () => ask('replay');
   get('watch').onclick = () => ask('watch');

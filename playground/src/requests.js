@@ -78,7 +78,7 @@ async function ask(...words) {
 // steps and the place; and of a refutation what its statement changes, and which part of the claim breaks.
 async function besides(words, source, { status, text = '' }) {
   const trace = status === VIOLATED ? (await asked(['replay'], source)).text ?? '' : undefined;
-  const lists = status === 0 && ['check', 'prove'].includes(words[0]);
+  const lists = status === 0 && ['check', 'prove', 'repair'].includes(words[0]);
   const steps = lists || placeWords.test(text) ? await stepsOf(source, asked) : undefined;
   const place = await placeOf(source, text, asked, steps), refuted = refutationOf(text, steps);
   if (refuted?.instance) refuted.changes = await changesOf(source, refuted, asked);
@@ -104,7 +104,7 @@ function show(words, source, told, { steps, place, refuted }) {
     say(`${words.join(' ')}: ${inWords(words, told.status, told.text)} (${time})`, told.status === 0);
   }
   showText(told.text ?? '', told.status);
-  if (steps && words[0] === 'prove') showProved(steps);
+  if (steps && words[0] !== 'check') showProved(steps);
   else if (steps) showSteps(steps);
   if (refuted) showRefuted(refuted);
   showPlace(place);
@@ -136,7 +136,7 @@ function showText(answer, status) {
   get('picture').hidden = get('drawing').hidden = !drawn;
 }
 
-// After `prove` the steps stand before the document, which is folded.
+// After `prove` and `repair` the steps stand before the document, which is folded.
 function showProved(steps) {
   showSteps(steps);
   get('next').hidden = false;

@@ -235,8 +235,8 @@ class Try:
         for _ in range(40):
             seen.append(self.browser.value("document.activeElement.id"))
             self.browser.press_tab()
-        wanted = ["chapter", "exercise", "open", "save", "link", "before", "theme", "check", "prove", "budget", "step",
-                  "find", "run", "fixed", "steps", "program", "replay", "watch", "text", "answer"]
+        wanted = ["chapter", "exercise", "open", "save", "link", "before", "theme", "check", "prove", "repair", "budget",
+                  "step", "find", "run", "fixed", "steps", "program", "replay", "watch", "text", "answer"]
         self.holds("Tab comes to everything", [it for it in seen if it in wanted][:len(wanted)] == wanted, seen)
 
     def screens(self):

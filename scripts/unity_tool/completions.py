@@ -15,7 +15,8 @@ from typing import NamedTuple
 
 from unity_tool.files import write
 
-WORDS = {"check": "judge the certificates", "prove": "find certificates", "run": "write a trace",
+WORDS = {"check": "judge the certificates", "prove": "find certificates",
+         "repair": "keep certificates, and find others", "run": "write a trace",
          "fixed": "run to a fixed point", "replay": "write the trace of the schedule",
          "watch": "read the claims on the schedule", "obligations": "write a script for solvers",
          "demo": "prove a ring", "upgrade": "write version 2", "help": "write the commands",

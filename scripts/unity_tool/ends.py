@@ -47,6 +47,7 @@ QUESTIONS = [
     ("check", "count"), ("run Count 5", "count"), ("check", "count_wrong_sum"), ("check", "unknown_name"),
     ("check", "share"), ("check", "last_bit"), ("check", "pick"), ("prove 1000000", "count"), ("prove 1", "count"),
     ("prove 1000000", "pick"), ("prove 1000000", "ring_of_three"), ("prove 1000000", "unknown_name"),
+    ("repair 1000000", "count"), ("repair 1", "count"), ("repair 1000000", "last_bit"),
     ("run Both 5", "union_of_two"), ("run None 3", "count"), ("run Over 3", "past_the_end"), ("fixed Count 5", "count"),
     ("fixed Over 3", "past_the_end"), ("replay", "race"), ("replay", "past_the_end"), ("replay", "count"),
     ("watch", "race"), ("watch", "lost_update_mended"), ("watch", "past_the_end"), ("watch", "count"),

@@ -58,7 +58,7 @@ function answer(status, text) {
 }
 
 if (words.length < 1 || words.length > 3) answer(BAD_WORDS, Buffer.from('bad words\n'));
-const asks = /^(?:check|replay|watch|upgrade|obligations)$|^prove /.test(words.join(' '))
+const asks = /^(?:check|replay|watch|upgrade|obligations)$|^(?:prove|repair) /.test(words.join(' '))
   || (words.length === 3 && /^(?:run|fixed)$/.test(words[0]));
 const source = asks ? attempt(READ_FAULT, () => readFileSync(0)) : Buffer.alloc(0);
 const base64 = /id="module">([^<]*)</.exec(readFileSync(page, 'latin1'))[1];

@@ -1,5 +1,5 @@
 -- Certificates with which a document is accepted, and the text with them.
-use Rattle.std.specs.Prelude.{◌≡◌, ℕ, ◌+◌, ◌*◌, ◌≤◌, false, List, length, All, Ok}
+use Rattle.std.specs.Prelude.{◌≡◌, ℕ, ◌+◌, ◌*◌, ◌^◌, ◌≤◌, false, List, length, All, Ok}
 use Rattle.core_terms.specs.declared.documents.CDocument.{CDocument}
 use Rattle.core_terms.specs.Conditions.{IsCoreDocument}
 use Rattle.unity_syntax.specs.declared.document.Document.{Document}
@@ -36,6 +36,14 @@ TextIsShort = (bytes : List ℕ) (d : Document) (certs : List Cert) → AreWhole
 pub record IsFoundText (bytes : List ℕ) (d : Document) (certs : List Cert) : Type 0 where
   pub read : IsWith d certs (text_with bytes d certs)
   pub size : length (text_with bytes d certs) ≤ length bytes + 57000018
+
+-- what a search finds of some document can be written after each document whose text says that it is of version 2; and
+-- where no step of the first leaves an obligation with a quotient, after each document: the text is the document with
+-- these certificates
+abbrev pub ProvedIsWith : Type 0
+ProvedIsWith = (bytes : List ℕ) (d : Document) (c : CDocument) (budget : ℕ) (plan : Plan) (certs : List Cert) →
+    (is : IsDocument bytes d) → (says_later is.tokens ≡ false → HasNoQuotients c) → IsCoreDocument c →
+    ProvedWithin c budget plan certs → budget ≤ 2 ^ 62 → IsWith d certs (text_with bytes d certs)
 
 -- what a search finds of some document within these units can be written after each document whose text says that it
 -- is of version 2; and where no step of the first leaves an obligation with a quotient, after each document

@@ -6,7 +6,7 @@ use Rattle.std.specs.Str.{bytes_eq}
 use Rattle.std.proofs.lemmas.Slice.Eq.{bytes_eq-Decides}
 use Rattle.cli_words.specs.Numbers.{number_in}
 use Rattle.cli_words.specs.Requests.{Request, check, prove, run, fixed, replay, demo, upgrade, watch, help, version}
-use Rattle.cli_words.specs.Requests.{obligations, positive, several, one_word, two_words, three_words, request_of}
+use Rattle.cli_words.specs.Requests.{obligations, repair, positive, several, one_word, two_words, three_words, request_of}
 use Rattle.cli_words.specs.Laws.{Asks, RequestsAreAsked}
 use Rattle.cli_words.proofs.Decimals.{numbers_are_decimal}
 
@@ -65,6 +65,17 @@ prove_asked word budget (Some (suc n)) request e f some =
     subst (Asks (word ∷ budget ∷ [])) is
     (ap (λ w. w ∷ budget ∷ []) e ∙ ap (λ t. codes "prove" ∷ t ∷ []) number.0, omega arith, number.1)
 
+repair_asked : (word budget : List ℕ) (found : Option ℕ) (request : Request) → word ≡ codes "repair" →
+    number_in 1000000000000 budget ≡ found → option_map repair (positive found) ≡ Some request →
+    Asks (word ∷ budget ∷ []) request
+repair_asked word budget None request e f some = cc
+repair_asked word budget (Some zero) request e f some = cc
+repair_asked word budget (Some (suc n)) request e f some =
+    let number = (numbers_are_decimal 1000000000000 (suc n) budget (omega arith)).0 f in
+    let is : repair (suc n) ≡ request = cc in
+    subst (Asks (word ∷ budget ∷ [])) is
+    (ap (λ w. w ∷ budget ∷ []) e ∙ ap (λ t. codes "repair" ∷ t ∷ []) number.0, omega arith, number.1)
+
 demo_asked : (word places : List ℕ) (found : Option ℕ) (request : Request) → word ≡ codes "demo" →
     number_in 64 places ≡ found → option_map demo (several found) ≡ Some request → Asks (word ∷ places ∷ []) request
 demo_asked word places None request e f some = cc
@@ -78,15 +89,21 @@ demo_asked word places (Some (suc (suc n))) request e f some =
 
 two_asked : (word number : List ℕ) (request : Request) → two_words word number ≡ Some request →
     Asks (word ∷ number ∷ []) request
-two_asked word number request e = go (bytes_eq word (codes "prove")) refl (bytes_eq word (codes "demo")) refl e
+two_asked word number request e =
+    go (bytes_eq word (codes "prove")) refl (bytes_eq word (codes "demo")) refl (bytes_eq word (codes "repair")) refl e
   where
     go : (b : Bool) → bytes_eq word (codes "prove") ≡ b → (c : Bool) → bytes_eq word (codes "demo") ≡ c →
+        (d : Bool) → bytes_eq word (codes "repair") ≡ d →
         cond b (option_map prove (positive (number_in 1000000 number)))
-        (cond c (option_map demo (several (number_in 64 number))) None) ≡ Some request →
+        (cond c (option_map demo (several (number_in 64 number)))
+        (cond d (option_map repair (positive (number_in 1000000000000 number))) None)) ≡ Some request →
         Asks (word ∷ number ∷ []) request
-    go true h c k some = prove_asked word number (number_in 1000000 number) request (same_bytes word _ h) refl some
-    go false h true k some = demo_asked word number (number_in 64 number) request (same_bytes word _ k) refl some
-    go false h false k some = cc
+    go true h c k d l some =
+        prove_asked word number (number_in 1000000 number) request (same_bytes word _ h) refl some
+    go false h true k d l some = demo_asked word number (number_in 64 number) request (same_bytes word _ k) refl some
+    go false h false k true l some =
+        repair_asked word number (number_in 1000000000000 number) request (same_bytes word _ l) refl some
+    go false h false k false l some = cc
 
 run_asked : (word program steps : List ℕ) (found : Option ℕ) (request : Request) → word ≡ codes "run" →
     number_in 1000000 steps ≡ found → option_map (run program) found ≡ Some request →
@@ -133,6 +150,10 @@ more_than_none : (budget : ℕ) → 1 ≤ budget → option_map prove (positive 
 more_than_none zero h = absurd (omega (arith, h))
 more_than_none (suc n) h = refl
 
+more_to_repair : (budget : ℕ) → 1 ≤ budget → option_map repair (positive (Some budget)) ≡ Some (repair budget)
+more_to_repair zero h = absurd (omega (arith, h))
+more_to_repair (suc n) h = refl
+
 more_than_one : (places : ℕ) → 2 ≤ places → option_map demo (several (Some places)) ≡ Some (demo places)
 more_than_one zero h = absurd (omega (arith, h))
 more_than_one (suc zero) h = absurd (omega (arith, h))
@@ -157,6 +178,11 @@ asking_words words watch h = ap request_of h
 asking_words words help h = ap request_of h
 asking_words words version h = ap request_of h
 asking_words words obligations h = ap request_of h
+asking_words words (repair budget) h =
+    ap request_of h.0
+    ∙ ap (λ n. option_map repair (positive n))
+    ((numbers_are_decimal 1000000000000 budget (decimal budget) (omega arith)).1 (refl, h.2))
+    ∙ more_to_repair budget h.1
 asking_words words (demo places) h =
     ap request_of h.0
     ∙ ap (λ n. option_map demo (several n))

@@ -2,7 +2,7 @@
 use Rattle.std.specs.Prelude.{◌≡◌, ◌≤◌, ◌<◌, ◌^◌, ◌↔◌, ℕ, List, [], ◌∷◌, codes, decimal, Some}
 use Rattle.cli_words.specs.Numbers.{number_in}
 use Rattle.cli_words.specs.Requests.{Request, check, prove, run, fixed, replay, demo, upgrade, watch, help, version}
-use Rattle.cli_words.specs.Requests.{obligations, request_of}
+use Rattle.cli_words.specs.Requests.{obligations, repair, request_of}
 
 abbrev pub NumbersAreDecimal : Type 0
 NumbersAreDecimal = (most n : ℕ) (word : List ℕ) → most < 2 ^ 64 →
@@ -21,6 +21,7 @@ Asks words watch = words ≡ codes "watch" ∷ []
 Asks words help = words ≡ codes "help" ∷ []
 Asks words version = words ≡ codes "version" ∷ []
 Asks words obligations = words ≡ codes "obligations" ∷ []
+Asks words (repair budget) = (words ≡ codes "repair" ∷ decimal budget ∷ []) × (1 ≤ budget) × (budget ≤ 1000000000000)
 
 abbrev pub RequestsAreAsked : Type 0
 RequestsAreAsked = (words : List (List ℕ)) (request : Request) → (request_of words ≡ Some request) ↔ Asks words request

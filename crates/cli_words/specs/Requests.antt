@@ -18,6 +18,7 @@ pub data Request : Type 0 where
   help : Request
   version : Request
   obligations : Request
+  repair : (budget : ℕ) → Request
 
 abbrev pub meant : Command → Request
 meant Command.Check = check
@@ -31,6 +32,7 @@ meant Command.Watch = watch
 meant Command.Help = help
 meant Command.Version = version
 meant Command.Obligations = obligations
+meant (Command.Repair budget) = repair budget
 
 abbrev pub one_word : List ℕ → Option Request
 one_word word =
@@ -58,7 +60,8 @@ several (Some (suc (suc n))) = Some (suc (suc n))
 abbrev pub two_words : List ℕ → List ℕ → Option Request
 two_words word number =
     cond (bytes_eq word (codes "prove")) (option_map prove (positive (number_in 1000000 number)))
-    (cond (bytes_eq word (codes "demo")) (option_map demo (several (number_in 64 number))) None)
+    (cond (bytes_eq word (codes "demo")) (option_map demo (several (number_in 64 number)))
+    (cond (bytes_eq word (codes "repair")) (option_map repair (positive (number_in 1000000000000 number))) None))
 
 abbrev pub three_words : List ℕ → List ℕ → List ℕ → Option Request
 three_words word program steps =
@@ -76,8 +79,10 @@ request_of words = None
 abbrev pub asked : {Z : Type 0} → List (String Z) → Option Request
 asked words = request_of (map string_bytes words)
 
--- a search has at most 1,000,000 units, and a ring 2 to 64 places
+-- a search has at most 1,000,000 units, one that begins with certificates that are there 1,000,000,000,000, and a ring 2
+-- to 64 places
 abbrev pub HasLimits : Command → Type 0
 HasLimits (Command.Prove budget) = budget ≤ 1000000
+HasLimits (Command.Repair budget) = budget ≤ 1000000000000
 HasLimits (Command.Demo places) = (2 ≤ places) × (places ≤ 64)
 HasLimits command = Unit {0}

@@ -1,6 +1,6 @@
 // What words ask for.
 ghost use Rattle.std.specs.Prelude.{◌≡◌, option_map, IfSome};
-ghost use Rattle.cli_words.specs.Requests.{asked, meant, HasLimits, demo, prove, run, fixed};
+ghost use Rattle.cli_words.specs.Requests.{asked, meant, HasLimits, demo, prove, repair, run, fixed};
 ghost use Rattle.cli_words.specs.Requests.{one_word, positive, several, two_words, three_words};
 ghost use Rattle.cli_words.specs.Numbers as numbers;
 
@@ -8,6 +8,9 @@ use crate::numbers::number_in;
 
 /// The greatest number of units of a search.
 const MOST_UNITS: u64 = 1_000_000;
+
+/// The greatest number of units of a search that begins with the certificates that are there.
+const MOST_REPAIRED_UNITS: u64 = 1_000_000_000_000;
 
 /// The greatest number of steps of a run.
 const MOST_STEPS: u64 = 1_000_000;
@@ -40,6 +43,8 @@ pub enum Command<'a> {
     Version,
     /// `obligations`: what is left to be shown for the document's proofs, as a script that solvers read.
     Obligations,
+    /// `repair BUDGET`: as `prove`, but the certificates that the document has are tried first. 1 to 1,000,000,000,000.
+    Repair { budget: u64 },
 }
 
 /// The command that the words are, read by position. `None` where they are none.
@@ -110,6 +115,17 @@ fn read_budget<'a>(budget: &str) -> Option<Command<'a>>
     }
 }
 
+// A search of so many units that begins with the certificates that are there.
+fn read_repair<'a>(budget: &str) -> Option<Command<'a>>
+    ensures asked { option_map meant result ≡ option_map repair (positive (numbers.number_in 1000000000000 budget.now)) }
+    ensures limits { IfSome result HasLimits }
+{
+    match positive(number_in(MOST_REPAIRED_UNITS, budget)) {
+        Some(budget) => Some(Command::Repair { budget }),
+        None => None,
+    }
+}
+
 // A ring of so many places.
 fn read_places<'a>(places: &str) -> Option<Command<'a>>
     ensures asked { option_map meant result ≡ option_map demo (several (numbers.number_in 64 places.now)) }
@@ -132,6 +148,8 @@ fn read_two<'a>(word: &str, number: &str) -> Option<Command<'a>>
         read_budget(number)
     } else if word == "demo" {
         read_places(number)
+    } else if word == "repair" {
+        read_repair(number)
     } else {
         None
     }

@@ -60,7 +60,7 @@ fn hear(pending: &mut Pending, e: CertEvent) -> Result<(), AllocError>
 
 /// What came next in a section.
 #[derive(Clone, Copy)]
-enum Step {
+pub(crate) enum Step {
     /// A token, which was taken.
     Taken {
         /// The token.
@@ -117,7 +117,7 @@ fn take_any<S: Source>(w: &mut Window, src: &mut S, reader: &mut CertReader) -> 
 
 /// Reads the next token and takes it. What is likely to come is looked for first, and taken where its kind is known.
 #[inline(always)]
-fn take_next<S: Source>(
+pub(crate) fn take_next<S: Source>(
     w: &mut Window,
     src: &mut S,
     reader: &mut CertReader,

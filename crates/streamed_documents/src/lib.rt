@@ -6,6 +6,7 @@ mod behind;
 mod cores;
 mod found;
 mod fronts;
+mod offers;
 mod outcomes;
 mod places;
 mod rests;
@@ -14,4 +15,5 @@ mod sources;
 
 pub use cores::core_of;
 pub use found::{Finding, Flaw, JudgedDocument, ReadDocument, Reading, SourceStop};
+pub use offers::certificates_at;
 pub use sources::{judge_bytes, judge_source, read_bytes, read_source};

@@ -23,7 +23,7 @@ use Rattle.cli_texts.specs.Refusals.{fault_text, refusal_text}
 use Rattle.cli_texts.specs.Verdicts.{accepted_text, rejected_text}
 use Rattle.plain_quotients.specs.from_upgraded_texts.Upgraded.{upgraded_text}
 use Rattle.cli_words.specs.Requests.{check, prove, run, fixed, replay, demo, upgrade, watch, help, version}
-use Rattle.cli_words.specs.Requests.{obligations}
+use Rattle.cli_words.specs.Requests.{obligations, repair}
 use Rattle.trace_watch.specs.declared.tracing.Ending.{Ending}
 use Rattle.watch_schedules.specs.declared.error.WatchStop.{WatchStop}
 use Rattle.watch_correct.specs.Watched.{IsWatched, StopsWatching}
@@ -636,4 +636,5 @@ one_answer (Some watch) any bytes status other text more a b =
     one_said bytes status other text more (said bytes status text a) (said bytes other more b)
 one_answer (Some help) any bytes status other text more a b = (a.0 ∙ sym b.0, a.1 ∙ sym b.1)
 one_answer (Some version) any bytes status other text more a b = (a.0 ∙ sym b.0, a.1 ∙ sym b.1)
+one_answer (Some (repair budget)) any bytes status other text more a b = absurd any
 one_answer (Some obligations) any bytes status other text more a b = one_listed bytes status other text more a b

@@ -1,4 +1,4 @@
--- What `prove` refutes is met by the values that it prints.
+-- What a search refutes is met by the values that it prints.
 use Rattle.std.proofs.Common.{◌≡◌, ℤ, Bool, true, false, not, ◌&&◌, List, [], ◌∷◌, ◌++◌, sym, ap, ◌∙◌, subst, arith}
 use Rattle.std.specs.Prelude.{All}
 use Rattle.std.proofs.lemmas.List.Elements.{All-head, All-tail}
@@ -14,7 +14,6 @@ use Rattle.solver_scripts.specs.Naming.{Naming}
 use Rattle.solver_scripts.specs.Terms.{Assignment}
 use Rattle.solver_scripts.specs.Laws.{values_of, meets, AreNamedApart, IsUnsat}
 use Rattle.solver_scripts.proofs.MeaningLaws.{script_means, unsat_is_valid}
-use Rattle.unity_cli.specs.Admitted.{greatest_bare_size}
 use Rattle.unity_cli.specs.Laws.{RefutedIsMet}
 use Rattle.unity_cli.proofs.Accepted.{read_core}
 
@@ -38,12 +37,12 @@ module _ (name : Naming) (o : Obligation) (zs : List ℤ) (is : IsObligation o) 
       both (form_at o.variables zs o.form) ((unsat_is_valid name o is apart).0 unsat zs fails.inside) fails.fails
 
 pub refuted_is_met : RefutedIsMet
-refuted_is_met bytes budget text r =
+refuted_is_met most bytes budget text within r =
     let d = core_document r.finding.document in
     let f = r.finding.finds.0 in
     let o = f.obligation in
     let all : All IsObligation (reached (reach_of d)).obligations =
-    makeable_of d (read_core greatest_bare_size (omega arith) bytes r.finding.document r.finding.read) in
+    makeable_of d (read_core most within bytes r.finding.document r.finding.read) in
     let is : IsObligation o =
     behind IsObligation f.comes.front f.comes.rest o
     (subst (λ (os : List Obligation). All IsObligation os) f.comes.parts all) in

@@ -44,7 +44,7 @@ shown_has_text places Status.Violated text h = tt
 
 -- where no certificates were found the answer is that of the search
 pub shown_bare : (places : ℕ) (status : Status) (text : List ℕ) →
-    Searched (ring_bytes places) ring_budget status text → (status ≡ Status.Done → ⊥) → Shown places status text
+    Searched greatest_bare_size (ring_bytes places) ring_budget status text → (status ≡ Status.Done → ⊥) → Shown places status text
 shown_bare places Status.Done text h other = absurd (other refl)
 shown_bare places Status.Rejected text h other = h
 shown_bare places Status.BadDocument text h other = h
@@ -59,17 +59,17 @@ shown_bare places Status.Violated text h other = h
 
 -- what comes with no plan is no text with certificates
 pub shown_alone : (places : ℕ) (words : List (List ℕ)) (a : Told) (plan : Option Plan) →
-    Searched (ring_bytes places) ring_budget a.status a.text.items → ComesWith words a plan → plan ≡ None →
+    Searched greatest_bare_size (ring_bytes places) ring_budget a.status a.text.items → ComesWith words a plan → plan ≡ None →
     Shown places a.status a.text.items
 shown_alone places words a plan h comes e =
     shown_bare places a.status a.text.items h (subst (ComesWith words a) e comes)
 
 pub shown_found : (places : ℕ) (a : Told) (verdict text : List ℕ) →
-    Searched (ring_bytes places) ring_budget a.status a.text.items → a.status ≡ Status.Done →
+    Searched greatest_bare_size (ring_bytes places) ring_budget a.status a.text.items → a.status ≡ Status.Done →
     IsAccepted a.text.items verdict → text ≡ ring_line places ++ verdict → Shown places Status.Done text
 shown_found places a verdict text h done accepted e = record {
   proved = a.text.items;
-  found = subst (λ s. Searched (ring_bytes places) ring_budget s a.text.items) done h;
+  found = subst (λ s. Searched greatest_bare_size (ring_bytes places) ring_budget s a.text.items) done h;
   verdict = verdict;
   accepted = accepted;
   text_is = e;
@@ -77,7 +77,7 @@ shown_found places a verdict text h done accepted e = record {
 
 -- what comes with a plan is, and the plan's verdict is shown
 pub shown_planned : (places : ℕ) (words : List (List ℕ)) (a : Told) (found : Option Plan) (plan : Plan)
-    (verdict text : List ℕ) → Searched (ring_bytes places) ring_budget a.status a.text.items →
+    (verdict text : List ℕ) → Searched greatest_bare_size (ring_bytes places) ring_budget a.status a.text.items →
     ComesWith words a found → found ≡ Some plan → verdict ≡ accepted_text words plan →
     text ≡ ring_line places ++ verdict → Shown places Status.Done text
 shown_planned places words a found plan verdict text h comes e same is =

@@ -46,7 +46,7 @@ use Rattle.cli_texts.specs.Refusals.{fault_text, refusal_text}
 use Rattle.cli_texts.specs.Verdicts.{accepted_text, rejected_text}
 use Rattle.plain_quotients.specs.from_upgraded_texts.Upgraded.{upgraded_text}
 use Rattle.cli_words.specs.Requests.{Request, check, prove, run, fixed, replay, demo, upgrade, watch, help, version}
-use Rattle.cli_words.specs.Requests.{obligations, request_of}
+use Rattle.cli_words.specs.Requests.{obligations, repair, request_of}
 use Rattle.cli_words.proofs.Asking.{requests_are_asked}
 use Rattle.trace_watch.specs.declared.tracing.Ending.{Ending}
 use Rattle.watch_correct.specs.Watched.{HasManyCases, HasNoPlan, HasNoProof, Replay, Started}
@@ -69,7 +69,7 @@ use Rattle.unity_cli.specs.Laws.{HasAnswer, IsLimited, LimitedHaveAnswer, SomeAn
 use Rattle.streamed_documents.specs.WellFormed.{of_text, of_document}
 use Rattle.unity_cli.proofs.Accepted.{read_core}
 use Rattle.unity_cli.proofs.OneAnswers.{read_not_bad}
-use Rattle.unity_cli.proofs.Searched.{found_of}
+use Rattle.unity_cli.proofs.Searched.{found_or_outgrown, short_found}
 use Rattle.unity_cli.proofs.Upgraded.{upgraded_of, wider}
 
 -- ---- readings
@@ -361,7 +361,7 @@ searched bytes budget few (inl (d, read)) =
     by_finding (Ok (Proof.Proved plan certs)) told finds = (
       Status.Done,
       text_with bytes d certs,
-      found_of bytes budget d plan certs (text_with bytes d certs) read few finds refl,
+      short_found bytes budget d plan certs read few finds,
     )
     by_finding (Ok (Proof.Refuted program step number variables values)) told finds = (
       Status.Refuted,
@@ -399,13 +399,62 @@ searched bytes budget few (inl (d, read)) =
         HasAnswer (Some (prove budget)) bytes
     by_some (finding, told, finds) = by_finding finding told finds
 
+-- ---- repair
+
+repaired : (bytes : List ℕ) (budget : ℕ) → budget ≤ 1000000000000 →
+    ReadOrBad greatest_size bytes → HasAnswer (Some (repair budget)) bytes
+repaired bytes budget few (inr (text, bad)) = (Status.BadDocument, text, inl bad)
+repaired bytes budget few (inl (d, read)) =
+    by_some (some_finding search-ends (core_document d) budget (read_core greatest_size (omega arith) bytes d read))
+  where
+    by_finding : (finding : Result Proof ScriptError) → IsAnswered finding → Finds (core_document d) budget finding →
+        HasAnswer (Some (repair budget)) bytes
+    by_finding (Ok (Proof.Proved plan certs)) told finds =
+        found_or_outgrown bytes budget d plan certs read few finds
+    by_finding (Ok (Proof.Refuted program step number variables values)) told finds = (
+      Status.Refuted,
+      refuted_text (core_document d) program step number variables values,
+      inl (record {
+        program = program;
+        step = step;
+        number = number;
+        variables = variables;
+        values = values;
+        finding = record { document = d; read = read; finds = finds; text_is = refl };
+      }),
+    )
+    by_finding (Ok (Proof.Budget program step number)) told finds = (
+      Status.Budget,
+      budget_text (core_document d).words program step number budget,
+      inl (record {
+        program = program;
+        step = step;
+        number = number;
+        finding = record { document = d; read = read; finds = finds; text_is = refl };
+      }),
+    )
+    by_finding (Err (ScriptError.Step fault)) told finds = (
+      Status.Rejected,
+      rejected_text (core_document d).words fault,
+      inl (record {
+        fault = fault;
+        finding = record { document = d; read = read; finds = finds; text_is = refl };
+      }),
+    )
+    by_finding (Err ScriptError.Memory) told finds = absurd told
+
+    by_some : (finding : Result Proof ScriptError) × IsAnswered finding × Finds (core_document d) budget finding →
+        HasAnswer (Some (repair budget)) bytes
+    by_some (finding, told, finds) = by_finding finding told finds
+
 -- ---- demo
 
 shown : (places : ℕ) (bytes : List ℕ) → HasAnswer (Some (prove ring_budget)) (ring_bytes places) →
     HasAnswer (Some (demo places)) bytes
 shown places bytes (status, text, h) = by_status status text h
   where
-    by_status : (status : Status) (text : List ℕ) → Searched (ring_bytes places) ring_budget status text →
+    by_status : (status : Status) (text : List ℕ) →
+        Searched greatest_bare_size (ring_bytes places) ring_budget status text →
         HasAnswer (Some (demo places)) bytes
     by_status Status.Done text h = (
       Status.Done,
@@ -607,6 +656,8 @@ limited_have_answer (Some watch) limited bytes = watches bytes (read_or_bad grea
 limited_have_answer (Some help) limited bytes = (Status.Done, help_text, (refl, refl))
 limited_have_answer (Some version) limited bytes = (Status.Done, version_text, (refl, refl))
 limited_have_answer (Some obligations) limited bytes = listed bytes (read_or_bad greatest_bare_size bytes)
+limited_have_answer (Some (repair budget)) limited bytes =
+    repaired bytes budget limited (read_or_bad greatest_size bytes)
 
 -- words ask for no more
 words_are_limited : (words : List (List ℕ)) → IsLimited (request_of words)
@@ -625,6 +676,7 @@ words_are_limited words = by_request (request_of words) refl
     by_request (Some help) e = tt
     by_request (Some version) e = tt
     by_request (Some obligations) e = tt
+    by_request (Some (repair budget)) e = ((requests_are_asked words (repair budget)).0 e).2
 
 pub some_answer : SomeAnswer
 some_answer words bytes = limited_have_answer (request_of words) (words_are_limited words) bytes

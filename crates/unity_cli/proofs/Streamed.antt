@@ -243,3 +243,5 @@ others_no_check asked Command.Version e other f =
     let never : ◌≡◌ {A = Option Request} (Some (meant Command.Version)) (Some check) = sym e ∙ f in cc
 others_no_check asked Command.Obligations e other f =
     let never : ◌≡◌ {A = Option Request} (Some (meant Command.Obligations)) (Some check) = sym e ∙ f in cc
+others_no_check asked (Command.Repair budget) e other f =
+    let never : ◌≡◌ {A = Option Request} (Some (meant (Command.Repair budget))) (Some check) = sym e ∙ f in cc

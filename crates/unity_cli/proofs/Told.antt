@@ -1,5 +1,5 @@
 -- What is told is an answer.
-use Rattle.std.proofs.Common.{◌≡◌, ◌↔◌, ◌<◌, ◌≤◌, ℕ, List, [], length, replicate, suc, Bool, true, false, Option}
+use Rattle.std.proofs.Common.{◌≡◌, ◌↔◌, ◌⊎◌, inl, inr, ◌<◌, ◌≤◌, ℕ, List, [], length, replicate, suc, Bool, true, false, Option}
 use Rattle.std.proofs.Common.{Some, None, Result, Ok, Err, IsErr, IsErrOf, refl, sym, ◌∙◌, subst, arith, codes}
 use Rattle.std.proofs.Common.{◌++◌}
 use Rattle.std.proofs.Common.{◌∷◌}
@@ -44,6 +44,7 @@ use Rattle.unity_cli.specs.Answer.{most_bytes}
 use Rattle.unity_cli.specs.Answer.Replay.{IsReplayed}
 use Rattle.unity_cli.specs.Answer.Check.{Checked}
 use Rattle.unity_cli.specs.Answer.Prove.{Searched}
+use Rattle.unity_cli.specs.Answer.Repair.{Repaired}
 use Rattle.unity_cli.specs.Answer.Replay.{Replayed}
 use Rattle.unity_cli.specs.Answer.{Answer, IsAnswer, Tells}
 use Rattle.unity_cli.specs.Answer.{TellsPart}
@@ -398,19 +399,24 @@ ended_early (Err RunError.Memory) old new status e w = (refl, λ f. cc)
 
 -- ---- check
 
-pub searched_has_text : (bytes : List ℕ) (budget : ℕ) (status : Status) (text : List ℕ) →
-    Searched bytes budget status text → HasText status
-searched_has_text bytes budget Status.Done text h = tt
-searched_has_text bytes budget Status.Rejected text h = tt
-searched_has_text bytes budget Status.BadDocument text h = tt
-searched_has_text bytes budget Status.Refuted text h = tt
-searched_has_text bytes budget Status.Budget text h = tt
-searched_has_text bytes budget Status.Undefined text h = tt
-searched_has_text bytes budget Status.BadWords text h = tt
-searched_has_text bytes budget Status.ReadFault text h = h
-searched_has_text bytes budget Status.WriteFault text h = h
-searched_has_text bytes budget Status.WantOfMemory text h = h
-searched_has_text bytes budget Status.Violated text h = tt
+pub searched_has_text : (most : ℕ) (bytes : List ℕ) (budget : ℕ) (status : Status) (text : List ℕ) →
+    Searched most bytes budget status text → HasText status
+searched_has_text most bytes budget Status.Done text h = tt
+searched_has_text most bytes budget Status.Rejected text h = tt
+searched_has_text most bytes budget Status.BadDocument text h = tt
+searched_has_text most bytes budget Status.Refuted text h = tt
+searched_has_text most bytes budget Status.Budget text h = tt
+searched_has_text most bytes budget Status.Undefined text h = tt
+searched_has_text most bytes budget Status.BadWords text h = tt
+searched_has_text most bytes budget Status.ReadFault text h = h
+searched_has_text most bytes budget Status.WriteFault text h = h
+searched_has_text most bytes budget Status.WantOfMemory text h = h
+searched_has_text most bytes budget Status.Violated text h = tt
+
+pub repaired_has_text : (most : ℕ) (bytes : List ℕ) (budget : ℕ) (status : Status) (text : List ℕ) →
+    Repaired most bytes budget status text → HasText status
+repaired_has_text most bytes budget status text (inl h) = searched_has_text most bytes budget status text h
+repaired_has_text most bytes budget status text (inr h) = subst HasText (sym h.status_is) tt
 
 pub answer_told : (request : Request) (bytes : List ℕ) (old new : Option (List ℕ)) (meant status : Status)
     (text : List ℕ) → Answer (Some request) bytes meant text → (HasText status → Appends old new text) → (HasText

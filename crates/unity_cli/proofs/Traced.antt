@@ -1,7 +1,7 @@
 -- What the commands whose answer is a trace have in common.
 use Rattle.std.proofs.Common.{ℕ, List, Some}
 use Rattle.cli_words.specs.Requests.{Request, check, prove, run, fixed, replay, demo, upgrade, watch, help, version}
-use Rattle.cli_words.specs.Requests.{obligations}
+use Rattle.cli_words.specs.Requests.{obligations, repair}
 use Rattle.unity_cli.specs.declared.input.Input.{Input}
 use Rattle.unity_cli.specs.declared.status.Status.{Status}
 use Rattle.unity_cli.specs.Admitted.{greatest_size, IsBad}
@@ -25,6 +25,7 @@ traced_input watch t bytes input is = absurd t
 traced_input help t bytes input is = absurd t
 traced_input version t bytes input is = absurd t
 traced_input obligations t bytes input is = absurd t
+traced_input (repair budget) t bytes input is = absurd t
 
 -- each says the same of what is no document
 pub traced_bad : (request : Request) → AsksForTrace request → (bytes text : List ℕ) → IsBad greatest_size bytes text →
@@ -40,3 +41,4 @@ traced_bad watch t bytes text bad = absurd t
 traced_bad help t bytes text bad = absurd t
 traced_bad version t bytes text bad = absurd t
 traced_bad obligations t bytes text bad = absurd t
+traced_bad (repair budget) t bytes text bad = absurd t

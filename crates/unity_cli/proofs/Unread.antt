@@ -3,7 +3,7 @@ use Rattle.std.proofs.Common.{◌≡◌, ℕ, List, Bool, true, false, Option, S
 use Rattle.std.specs.Option.{option_copied}
 use Rattle.cli_words.specs.declared.words.Command.{Command}
 use Rattle.cli_words.specs.Requests.{Request, check, prove, run, fixed, replay, demo, upgrade, watch, help, version}
-use Rattle.cli_words.specs.Requests.{obligations, meant}
+use Rattle.cli_words.specs.Requests.{repair, obligations, meant}
 use Rattle.unity_cli.specs.declared.status.Status.{Status}
 use Rattle.unity_cli.specs.Status.{HasText}
 use Rattle.unity_cli.specs.Answer.{reads_source, Answer, Tells, TellsPart}
@@ -60,6 +60,7 @@ constant_answer watch text bytes is = cc
 constant_answer help text bytes is = (refl, cc)
 constant_answer version text bytes is = (refl, cc)
 constant_answer obligations text bytes is = cc
+constant_answer (repair budget) text bytes is = cc
 
 -- and no source is read for it
 constant_unread : (request : Request) (text : List ℕ) → constant_text request ≡ Some text →
@@ -75,6 +76,7 @@ constant_unread watch text is = cc
 constant_unread help text is = refl
 constant_unread version text is = refl
 constant_unread obligations text is = cc
+constant_unread (repair budget) text is = cc
 
 module _ (asked : Option Request) (request : Request) (text : List ℕ) (e : asked ≡ Some request)
     (is : constant_text request ≡ Some text) where
@@ -127,4 +129,6 @@ others_read asked Command.Watch e other none f =
 others_read asked Command.Help e other none f = cc
 others_read asked Command.Version e other none f = cc
 others_read asked Command.Obligations e other none f =
+    let never : ◌≡◌ {A = Bool} true false = sym (ap reads_source e) ∙ f in cc
+others_read asked (Command.Repair budget) e other none f =
     let never : ◌≡◌ {A = Bool} true false = sym (ap reads_source e) ∙ f in cc

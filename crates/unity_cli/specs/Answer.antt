@@ -1,6 +1,7 @@
 -- What the program answers.
 pub mod Check
 pub mod Prove
+pub mod Repair
 pub mod Run
 pub mod Fixed
 pub mod Replay
@@ -13,11 +14,12 @@ use Rattle.std.specs.Prelude.{◌≡◌, ℕ, List, ◌∷◌, [], ◌++◌, cod
 use Rattle.std.specs.Io.KnownBytes.{Appends}
 use Rattle.unity_base.specs.Streams.{Was, AppendsPart}
 use Rattle.cli_words.specs.Requests.{Request, check, prove, run, fixed, replay, demo, upgrade, watch, help, version}
-use Rattle.cli_words.specs.Requests.{obligations}
+use Rattle.cli_words.specs.Requests.{obligations, repair}
 use Rattle.unity_cli.specs.declared.status.Status.{Status}
 use Rattle.unity_cli.specs.Admitted.{greatest_size, greatest_bare_size}
 use Rattle.unity_cli.specs.Answer.Check.{Checked}
 use Rattle.unity_cli.specs.Answer.Prove.{Searched}
+use Rattle.unity_cli.specs.Answer.Repair.{Repaired}
 use Rattle.unity_cli.specs.Answer.Run.{Ran}
 use Rattle.unity_cli.specs.Answer.Fixed.{RanToFixed}
 use Rattle.unity_cli.specs.Answer.Replay.{Replayed}
@@ -38,7 +40,8 @@ most_bytes request = greatest_size
 abbrev pub Answer : Option Request → List ℕ → Status → List ℕ → Type 0
 Answer None bytes status text = (status ≡ Status.BadWords) × (text ≡ codes "bad words" ++ 10 ∷ [])
 Answer (Some check) bytes status text = Checked bytes status text
-Answer (Some (prove budget)) bytes status text = Searched bytes budget status text
+Answer (Some (prove budget)) bytes status text = Searched greatest_bare_size bytes budget status text
+Answer (Some (repair budget)) bytes status text = Repaired greatest_size bytes budget status text
 Answer (Some (run program steps)) bytes status text = Ran bytes program steps status text
 Answer (Some (fixed program steps)) bytes status text = RanToFixed bytes program steps status text
 Answer (Some replay) bytes status text = Replayed bytes status text

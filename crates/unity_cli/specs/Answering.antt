@@ -1,5 +1,5 @@
 -- What is said of an input, whatever bytes it is.
-use Rattle.std.specs.Prelude.{◌≡◌, ℕ, List, Option, Some, None, Result, Ok, Err}
+use Rattle.std.specs.Prelude.{◌≡◌, ◌≤◌, ℕ, List, Option, Some, None, Result, Ok, Err}
 use Rattle.std.specs.Io.KnownBytes.{Appends}
 use Rattle.unity_base.specs.Streams.{AppendsPart}
 use Rattle.case_tables.specs.declared.code_table.Code.{Code}
@@ -20,6 +20,7 @@ use Rattle.unity_cli.specs.Admitted.{greatest_size, greatest_bare_size}
 use Rattle.unity_cli.specs.Answer.Check.{IsAccepted}
 use Rattle.unity_cli.specs.Answer.{most_bytes, Answer}
 use Rattle.unity_cli.specs.Answer.Prove.{Searched}
+use Rattle.unity_cli.specs.Answer.Repair.{Repaired}
 use Rattle.unity_cli.specs.Answer.Upgrade.{Upgraded}
 use Rattle.unity_cli.specs.Answer.Watch.{Watched}
 use Rattle.watch_schedules.specs.declared.error.WatchStop.{WatchStop}
@@ -35,11 +36,22 @@ AsksForTrace request = ⊥
 -- the status and the text are what `prove` answers
 abbrev pub IsSearchedFor : ℕ → List ℕ → Input → Told → Type 0
 IsSearchedFor budget kept input a = (bytes : List ℕ) → IsInput greatest_bare_size bytes input →
-    AreKept input kept bytes → Searched bytes budget a.status a.text.items
+    AreKept input kept bytes → Searched greatest_bare_size bytes budget a.status a.text.items
 
 -- of a document
 abbrev pub IsSearchedIn : ℕ → List ℕ → ReadDocument → Told → Type 0
-IsSearchedIn budget bytes r a = IsAdmittedAs greatest_bare_size bytes r → Searched bytes budget a.status a.text.items
+IsSearchedIn budget bytes r a =
+    IsAdmittedAs greatest_bare_size bytes r → Searched greatest_bare_size bytes budget a.status a.text.items
+
+-- the status and the text are what `repair` answers, of a document and of texts of whatever size
+abbrev pub IsRepairedIn : ℕ → List ℕ → ReadDocument → Told → Type 0
+IsRepairedIn budget bytes r a = (most : ℕ) → most ≤ greatest_size → IsAdmittedAs most bytes r →
+    Repaired most bytes budget a.status a.text.items
+
+-- of an input
+abbrev pub IsRepairedFor : ℕ → List ℕ → Input → Told → Type 0
+IsRepairedFor budget kept input a = (bytes : List ℕ) → IsInput greatest_size bytes input → AreKept input kept bytes →
+    Repaired greatest_size bytes budget a.status a.text.items
 
 -- the status and the text are what `upgrade` answers
 abbrev pub IsUpgradedFor : Text → Told → Type 0

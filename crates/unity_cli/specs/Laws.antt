@@ -11,9 +11,10 @@ use Rattle.proof_script.specs.Proving.{ComesAtNumber}
 use Rattle.solver_scripts.specs.Naming.{Naming}
 use Rattle.solver_scripts.specs.Terms.{Assignment}
 use Rattle.solver_scripts.specs.Laws.{values_of, meets, AreNamedApart, IsUnsat}
-use Rattle.cli_words.specs.Requests.{Request, prove, demo, request_of}
+use Rattle.cli_words.specs.Requests.{Request, prove, demo, repair, request_of}
 use Rattle.soundness.specs.Layers.{LayersCarry}
 use Rattle.unity_cli.specs.declared.status.Status.{Status}
+use Rattle.unity_cli.specs.Admitted.{greatest_size}
 use Rattle.unity_cli.specs.Answer.{Answer}
 use Rattle.unity_cli.specs.Answer.Prove.{IsRefuted}
 use Rattle.unity_cli.specs.Following.{FollowsTheRules}
@@ -21,6 +22,7 @@ use Rattle.unity_cli.specs.Following.{FollowsTheRules}
 -- all but a search have no choice; that of a ring is one
 abbrev pub IsDetermined : Option Request → Type 0
 IsDetermined (Some (prove budget)) = ⊥
+IsDetermined (Some (repair budget)) = ⊥
 IsDetermined (Some (demo places)) = ⊥
 IsDetermined request = Unit {0}
 
@@ -40,6 +42,7 @@ SomeAnswer = (words : List (List ℕ)) (bytes : List ℕ) → HasAnswer (request
 -- the units of a search are no more than words can ask for
 abbrev pub IsLimited : Option Request → Type 0
 IsLimited (Some (prove budget)) = budget ≤ 1000000
+IsLimited (Some (repair budget)) = budget ≤ 1000000000000
 IsLimited request = Unit {0}
 
 -- and so has each request that is limited so, whether words ask for it or not
@@ -60,7 +63,8 @@ pub record IsMetAt (d : CDocument) (number : ℕ) (variables : List Variable) (v
   pub met : (name : Naming) (a : Assignment) → values_of name variables a ≡ values → meets name obligation a ≡ true
   pub not_unsat : (name : Naming) → AreNamedApart name variables → IsUnsat name obligation → ⊥
 
--- so it is with what `prove` refutes, and the values that it prints
+-- so it is with what `prove` or `repair` refutes, and the values that it prints
 abbrev pub RefutedIsMet : Type 0
-RefutedIsMet = (bytes : List ℕ) (budget : ℕ) (text : List ℕ) (r : IsRefuted bytes budget text) →
+RefutedIsMet = (most : ℕ) (bytes : List ℕ) (budget : ℕ) (text : List ℕ) → most ≤ greatest_size →
+    (r : IsRefuted most bytes budget text) →
     IsMetAt (core_document r.finding.document) r.number r.variables r.values

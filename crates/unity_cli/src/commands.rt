@@ -11,6 +11,7 @@ ghost use Rattle.unity_cli.specs.Input.{IsSomeText};
 use crate::input::{Input, Text};
 use crate::listing::write_listing;
 use crate::prove::write_finding;
+use crate::repair::write_repair;
 use crate::status::Status;
 use crate::traces::write_trace;
 use crate::upgrade::write_upgrade;
@@ -55,6 +56,7 @@ pub fn write_command<K: Sink>(alloc: Global, command: &Command, text: Text, out:
         Command::Check | Command::Demo { .. } => unreachable!(),
         Command::Help | Command::Version => unreachable!(),
         Command::Prove { budget } => write_finding(alloc, *budget, &text.bytes, &text.input, out),
+        Command::Repair { budget } => write_repair(alloc, *budget, &text.bytes, &text.input, out),
         Command::Run { .. } | Command::Fixed { .. } | Command::Replay => {
             write_trace(alloc, command, &input_of(text), out)
         }

@@ -19,6 +19,7 @@ from standard input, and writes one text to standard output.
 commands:
   check                says whether the document's proofs are accepted
   prove BUDGET         finds certificates for them, of 1 to 1000000 units
+  repair BUDGET        keeps those that hold, of 1 to 1000000000000 units
   run PROGRAM STEPS    executes a program, 0 to 1000000 steps
   fixed PROGRAM STEPS  the same, up to the first fixed point
   replay               executes the document's schedule

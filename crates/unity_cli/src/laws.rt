@@ -6,8 +6,8 @@ ghost use Rattle.unity_cli.specs.Laws.{OneAnswer, SomeAnswer, LimitedHaveAnswer,
 use solver_scripts::script_laws;
 use soundness::projection_laws;
 
-/// Words and bytes have some status and text; and they have no other, but for `prove` and `demo`, which search: what is
-/// found may differ.
+/// Words and bytes have some status and text; and they have no other, but for `prove`, `repair` and `demo`, which search:
+/// what is found may differ.
 pub fn one_answer()
     ensures one { OneAnswer }
     ensures some { SomeAnswer }
@@ -28,8 +28,8 @@ pub fn layers_project()
 
 /// An assignment meets both asserts of an obligation, as `obligations` writes them, exactly where it gives each variable
 /// a number in its range, and the obligation's form is false there. So a solver that says `unsat` of all says that all
-/// are valid, whoever it is. Quotients and remainders are those of the standard. An obligation that `prove` refutes is
-/// met by the values that it prints.
+/// are valid, whoever it is. Quotients and remainders are those of the standard. An obligation that `prove` or
+/// `repair` refutes is met by the values that it prints.
 pub fn scripts_mean()
     ensures means { ScriptMeans }
     ensures unsat { UnsatIsValid }

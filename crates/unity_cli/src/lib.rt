@@ -12,6 +12,7 @@ mod listing;
 mod output;
 mod process;
 mod prove;
+mod repair;
 mod replay;
 mod run;
 mod status;

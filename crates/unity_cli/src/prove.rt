@@ -1,13 +1,14 @@
 // The command `prove`: certificates for the proofs of a document.
-ghost use Rattle.std.specs.Prelude.{◌≡◌, ◌≤◌, ◌++◌, ◌∷◌, List, ℕ, IfOk, Ok};
+ghost use Rattle.std.specs.Prelude.{◌≡◌, ◌≤◌, ◌++◌, ◌∷◌, List, ℕ, IfOk};
 ghost use Rattle.unity_base.specs.Streams.{IsTold};
-ghost use Rattle.proof_script.specs.Proving.{Finds};
+ghost use Rattle.proof_script.specs.Proving.{Finds, ProvedWithin};
 ghost use Rattle.certificate_printing.specs.Certificates.{certificates_text};
-ghost use Rattle.unity_cli.specs.Admitted.{greatest_bare_size};
+ghost use Rattle.unity_cli.specs.Admitted.{greatest_bare_size, greatest_size};
 ghost use Rattle.cli_words.specs.Requests as requests;
-ghost use Rattle.unity_cli.specs.Answering.{HasPlan, IsSearchedFor, IsSearchedIn, Telling};
+ghost use Rattle.unity_cli.specs.Answering.{HasPlan, IsRepairedIn, IsSearchedFor, IsSearchedIn, Telling};
 ghost use Rattle.unity_cli.specs.Input.{AreKept, IsInput, IsAdmittedAs, bytes_before, words_in};
 
+use crate::commands::GREATEST_SIZE;
 use crate::input::Input;
 use crate::output::{Answer, write_answer};
 use crate::status::Status;
@@ -19,7 +20,7 @@ use obligations::Cert;
 use proof_script::{Plan, Proof, ScriptError, prove};
 use std::alloc::{AllocError, Global};
 use streamed_documents::ReadDocument;
-use unity_base::Sink;
+use unity_base::{Seq, Sink};
 
 /// What a search gives.
 #[derive(Drop)]
@@ -73,49 +74,36 @@ fn find_for(
     ensures answer { IfOk result (λ f. IsSearchedIn budget bytes.now reading.now f.answer) }
     ensures plan { IfOk result (HasPlan reading.now.core.words) }
 {
-    match prove(alloc, &reading.core, budget, &Conflicts) {
-        Ok(proof) => answered(alloc, budget, bytes, reading, proof),
-        Err(ScriptError::Step(fault)) => {
-            let words = reading.core.words.as_slice();
-            Ok(Found {
-                answer: Answer {
-                    status: Status::Rejected,
-                    text: rejected(alloc, words, &fault)?,
-                },
-                plan: None,
-            })
-        }
-        Err(ScriptError::Memory) => Err(AllocError),
-    }
+    let found = prove(alloc, &reading.core, budget, &Conflicts);
+    tell(alloc, budget, bytes, reading, found)
 }
 
-// What `prove` answers for a document in whose proofs every rule applies.
-fn answered(
+/// What is answered for a document of which a search found this.
+pub fn tell(
     alloc: Global,
     budget: u64,
     bytes: &[u8],
     reading: &ReadDocument,
-    proof: Proof,
+    found: Result<Proof, ScriptError>,
 ) -> Result<Found, AllocError>
-    requires reading { IsAdmittedAs greatest_bare_size bytes.now reading.now }
-    requires budget { budget ≤ 1000000 }
-    requires proof { Finds reading.now.core budget (Ok proof) }
-    ensures answer { IfOk result (λ f. IsSearchedIn budget bytes.now reading.now f.answer) }
+    requires reading { (most : ℕ) × (most ≤ greatest_size) × IsAdmittedAs most bytes.now reading.now }
+    requires budget { budget ≤ 1000000000000 }
+    requires found { Finds reading.now.core budget found }
+    ensures answer { IfOk result (λ f. IsRepairedIn budget bytes.now reading.now f.answer) }
     ensures plan { IfOk result (HasPlan reading.now.core.words) }
 {
-    match proof {
-        Proof::Proved { plan, certs } => {
-            let front = front_of(bytes, reading.section_at);
-            let text = text_with(alloc, front, certs.as_slice())?;
-            Ok(Found::new(Status::Done, text, Some(plan)))
+    let words = reading.core.words.as_slice();
+    match found {
+        Ok(Proof::Proved { plan, certs }) => {
+            tell_proved(alloc, budget, bytes, reading, plan, certs)
         }
-        Proof::Refuted {
+        Ok(Proof::Refuted {
             program,
             step,
             obligation,
             variables,
             values,
-        } => {
+        }) => {
             let text = refuted_text(
                 alloc,
                 &reading.core,
@@ -127,16 +115,45 @@ fn answered(
             )?;
             Ok(Found::new(Status::Refuted, text, None))
         }
-        Proof::Budget {
+        Ok(Proof::Budget {
             program,
             step,
             obligation,
-        } => {
-            let words = reading.core.words.as_slice();
+        }) => {
             let text = budget_text(alloc, words, program, step, obligation, budget)?;
             Ok(Found::new(Status::Budget, text, None))
         }
+        Err(ScriptError::Step(fault)) => {
+            let text = rejected(alloc, words, &fault)?;
+            Ok(Found::new(Status::Rejected, text, None))
+        }
+        Err(ScriptError::Memory) => Err(AllocError),
     }
+}
+
+// What is answered for a document of which these certificates were found. A text that is longer than `check` takes is
+// not written.
+fn tell_proved(
+    alloc: Global,
+    budget: u64,
+    bytes: &[u8],
+    reading: &ReadDocument,
+    plan: Plan,
+    certs: Seq<Cert>,
+) -> Result<Found, AllocError>
+    requires reading { (most : ℕ) × (most ≤ greatest_size) × IsAdmittedAs most bytes.now reading.now }
+    requires budget { budget ≤ 1000000000000 }
+    requires proved { ProvedWithin reading.now.core budget plan certs }
+    ensures answer { IfOk result (λ f. IsRepairedIn budget bytes.now reading.now f.answer) }
+    ensures plan { IfOk result (HasPlan reading.now.core.words) }
+{
+    let front = front_of(bytes, reading.section_at);
+    let text = text_with(alloc, front, certs.as_slice())?;
+    if text.len() > GREATEST_SIZE {
+        let refusal = input_refusal(alloc, Code::TooLong)?;
+        return Ok(Found::new(Status::BadDocument, refusal, None));
+    }
+    Ok(Found::new(Status::Done, text, Some(plan)))
 }
 
 // The bytes before the word `certificates`.

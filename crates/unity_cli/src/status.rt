@@ -6,18 +6,18 @@ ghost use Rattle.unity_cli.specs.Status.{status_number};
 pub enum Status {
     /// `check`: each step follows its rule, and each certificate refutes its obligation's negation.
     /// `run`, `fixed`, `replay`: each step was defined.
-    /// `prove`: certificates were found for all obligations.
+    /// `prove`, `repair`: certificates were found for all obligations.
     /// `watch`: nothing is violated on the trace.
     /// `obligations`: each step follows its rule.
     Done = 0,
     /// `check`: a step does not follow its rule, or a certificate is missing, one too many, or fails.
-    /// `prove`, `watch`, `obligations`: a step does not follow its rule, or a proof has no `defined` step.
+    /// `prove`, `repair`, `watch`, `obligations`: a step does not follow its rule, or a proof has no `defined` step.
     Rejected = 1,
     /// The bytes are no document, or none that the command can use.
     BadDocument = 2,
-    /// `prove`: an obligation is false at the values that are written.
+    /// `prove`, `repair`: an obligation is false at the values that are written.
     Refuted = 3,
-    /// `prove`: the budget does not suffice.
+    /// `prove`, `repair`: the budget does not suffice.
     Budget = 4,
     /// `run`, `fixed`, `replay`: the next step is undefined at the last state that was written.
     Undefined = 5,

@@ -53,7 +53,8 @@ fn trace_document<K: Sink>(
         Command::Run { program, steps } => run_document(alloc, program, *steps, reading, out),
         Command::Fixed { program, steps } => fixed_document(alloc, program, *steps, reading, out),
         Command::Replay => replay_document(alloc, reading, out),
-        Command::Check | Command::Prove { .. } | Command::Demo { .. } => unreachable!(),
+        Command::Check | Command::Prove { .. } | Command::Repair { .. } => unreachable!(),
+        Command::Demo { .. } => unreachable!(),
         Command::Upgrade | Command::Watch | Command::Obligations => unreachable!(),
         Command::Help | Command::Version => unreachable!(),
     }

@@ -194,7 +194,7 @@ pub extern "C" fn unity_one(
     };
 }
 
-/// The answer to two words, as `prove` and a budget.
+/// The answer to two words, as `prove` or `repair` and a budget.
 #[unsafe(no_mangle)]
 pub extern "C" fn unity_two(
     alloc: Global,

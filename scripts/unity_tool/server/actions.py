@@ -54,8 +54,8 @@ def prove(latin, _):
 
 
 def repair(latin, chosen):
-    """Proves with what fits of the certificates, and without them where they can't be read."""
-    answer, status = unity(["prove", BUDGET], latin)
+    """Proves with what holds of the certificates, and without them where they can't be read."""
+    answer, status = unity(["repair", BUDGET], latin)
     if status and answer.startswith("bad"):
         return prove(drop(latin, chosen)[0], chosen)
     if status:

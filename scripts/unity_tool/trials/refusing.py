@@ -6,7 +6,8 @@ from unity_tool.trials.asking import ask, read, script, unity
 from unity_tool.trials.cases import Case, faults, other_answer, other_status, single
 
 READ_FAULT, WRITE_FAULT = 7, 8
-READING = ["check", "prove 1000000", "run Count 5", "fixed Count 5", "replay", "watch", "upgrade", "obligations"]
+READING = ["check", "prove 1000000", "repair 1000000", "run Count 5", "fixed Count 5", "replay", "watch", "upgrade",
+           "obligations"]
 WRITING = READING + ["demo 2", "help", "version"]
 
 # a test of the ground that runs where its Nth allocation is refused

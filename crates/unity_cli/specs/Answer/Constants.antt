@@ -14,6 +14,7 @@ help_text =
     ++ codes "commands:\n"
     ++ codes "  check                says whether the document's proofs are accepted\n"
     ++ codes "  prove BUDGET         finds certificates for them, of 1 to 1000000 units\n"
+    ++ codes "  repair BUDGET        keeps those that hold, of 1 to 1000000000000 units\n"
     ++ codes "  run PROGRAM STEPS    executes a program, 0 to 1000000 steps\n"
     ++ codes "  fixed PROGRAM STEPS  the same, up to the first fixed point\n"
     ++ codes "  replay               executes the document's schedule\n"

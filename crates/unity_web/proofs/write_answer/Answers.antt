@@ -2,7 +2,7 @@ use Rattle.std.proofs.Common.{rules, ◌≡◌, ◌<◌, ◌++◌, ◌∙◌, �
 use Rattle.std.proofs.lemmas.List.{take_at}
 use Rattle.unity_syntax.specs.declared.document.Document.{Document}
 use Rattle.cli_words.specs.Requests.{Request, check, prove, run, fixed, replay, demo, upgrade, watch, help, version}
-use Rattle.cli_words.specs.Requests.{obligations}
+use Rattle.cli_words.specs.Requests.{obligations, repair}
 use Rattle.unity_cli.specs.declared.status.Status.{Status}
 use Rattle.unity_cli.specs.Status.{HasText}
 use Rattle.unity_cli.specs.Answer.{IsSaidOf, Tells}
@@ -33,6 +33,7 @@ said_of (Some watch) left source was = tt
 said_of (Some help) left source was = tt
 said_of (Some version) left source was = tt
 said_of (Some obligations) left source was = tt
+said_of (Some (repair budget)) left source was = tt
 
 told : (asked : Option Request) (left : Option (List ℕ)) (source : List ℕ) (status : Status) (old new text : List ℕ) →
     (HasText status → IsSaidOf asked left → Tells asked left status (Some old) (Some new)) → HasText status →

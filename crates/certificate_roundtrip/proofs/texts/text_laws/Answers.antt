@@ -1,4 +1,4 @@
-use Rattle.certificate_roundtrip.proofs.FoundTexts.{proved_is_read}
+use Rattle.certificate_roundtrip.proofs.FoundTexts.{proved_is_read, proved_is_with}
 use Rattle.certificate_roundtrip.proofs.Sizes.{proved_are_few, text_is_short}
 use Rattle.certificate_roundtrip.proofs.SmallNumbers.{proved_are_small}
 use Rattle.certificate_roundtrip.proofs.texts.text_laws.Goals as goal
@@ -11,6 +11,9 @@ returns-clause-few c = proved_are_few
 
 pub returns-clause-size : goal.returns-clause-size
 returns-clause-size c = text_is_short
+
+pub returns-clause-whole : goal.returns-clause-whole
+returns-clause-whole c = proved_is_with
 
 pub returns-clause-read : goal.returns-clause-read
 returns-clause-read c = proved_is_read

@@ -15,6 +15,15 @@ returns-in-Prove-clause-told g c = λ bytes text.
     (subst (λ r. IsInput (most_bytes (Some r)) bytes c.args.text.input) is text.input_is)
     (subst (λ kept. AreKept c.args.text.input kept bytes) (sym c.deref.ensures.value) text.kept))
 
+pub returns-in-Repair-clause-told : goal.returns-in-Repair-clause-told
+returns-in-Repair-clause-told g c = λ bytes text.
+    let is = ap meant c.in-Repair.is in
+    subst (λ r. Telling r bytes (g.K.Sink.written c.args.out.now) (g.K.Sink.written c.write_repair.new.out)
+    c.write_repair.result) (sym is)
+    (c.write_repair.ensures.told bytes
+    (subst (λ r. IsInput (most_bytes (Some r)) bytes c.args.text.input) is text.input_is)
+    (subst (λ kept. AreKept c.args.text.input kept bytes) (sym c.deref-in-Repair.ensures.value) text.kept))
+
 pub returns-in-Upgrade-clause-told : goal.returns-in-Upgrade-clause-told
 returns-in-Upgrade-clause-told g c =
     subst (λ r. TellsText r c.args.text (g.K.Sink.written c.args.out.now) (g.K.Sink.written c.write_upgrade.new.out)
