@@ -1,12 +1,11 @@
 // Programs of at most three statements, with bounds worked out by hand: along all executions of eight choices, from
-// every state. And the rounds of lists of choices.
-ghost use Rattle.std.specs.Prelude.{◌≤◌, ◌<◌, ◌^◌, [], length, IfOk, All};
+// every state.
+ghost use Rattle.std.specs.Prelude.{◌≤◌, ◌<◌, ◌^◌, [], length, IfOk};
 ghost use Rattle.examples_bounds.specs.Readable.{FormIsReadable};
 ghost use Rattle.examples_bounds.specs.Tables.{SlotsAreLight};
 
 use super::*;
 use core_terms::{CForm, CSlot};
-use fair_rounds::{RoundCount, rounds};
 use std::alloc::{AllocError, Global};
 use std::test::Fail;
 
@@ -228,48 +227,5 @@ fn walks_from_a_state(rt: HostRuntime) -> Result<(), Fail> {
     assert!(rt; from_place(rt.alloc(), 2, 2)? == Some(true));
     assert!(rt; from_place(rt.alloc(), 2, 3)? == Some(false));
     assert!(rt; from_place(rt.alloc(), 3, 3)? == None);
-    Ok(())
-}
-
-// The rounds of choices among so many instances, which are told one at a time.
-fn told(choices: &[u32], instances: u32) -> u64
-    requires some { 1 ≤ instances }
-    requires few { instances ≤ 4096 }
-    requires instances { All (λ choice. choice < instances) choices.now }
-{
-    let mut count = RoundCount::new(instances);
-    for choice in choices {
-        count.add(*choice);
-    }
-    count.rounds()
-}
-
-// The rounds of choices, where those of the whole list and those of one choice after the other are as many.
-fn agreed(choices: &[u32], instances: u32) -> Option<u64>
-    requires some { 1 ≤ instances }
-    requires few { instances ≤ 4096 }
-    requires instances { All (λ choice. choice < instances) choices.now }
-{
-    let all = rounds(choices, instances);
-    if all == told(choices, instances) {
-        Some(all)
-    } else {
-        None
-    }
-}
-
-// No choices; one instance, whose every choice is a round; lists in which an instance is never chosen; whole rounds,
-// in any order and with choices that come again; and a part of a round after them.
-#[test]
-fn counts_rounds(rt: HostRuntime) -> Result<(), Fail> {
-    assert_eq!(rt; agreed([].as_slice(), 3), Some(0));
-    assert_eq!(rt; agreed([].as_slice(), 4096), Some(0));
-    assert_eq!(rt; agreed([0, 0, 0].as_slice(), 1), Some(3));
-    assert_eq!(rt; agreed([0, 0, 2, 0].as_slice(), 3), Some(0));
-    assert_eq!(rt; agreed([4095].as_slice(), 4096), Some(0));
-    assert_eq!(rt; agreed([2, 0, 1].as_slice(), 3), Some(1));
-    assert_eq!(rt; agreed([0, 1, 2, 2, 1, 0].as_slice(), 3), Some(2));
-    assert_eq!(rt; agreed([0, 1, 0, 2, 1, 0, 1].as_slice(), 3), Some(1));
-    assert_eq!(rt; agreed([0, 1, 1, 0, 1].as_slice(), 2), Some(2));
     Ok(())
 }

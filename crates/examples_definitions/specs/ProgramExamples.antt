@@ -67,6 +67,25 @@ UnevenRounds = rounds (0 ∷ 0 ∷ 1 ∷ 1 ∷ 0 ∷ []) 2 ≡ 2
 abbrev pub NoRoundWithout : Type 0
 NoRoundWithout = rounds (0 ∷ 0 ∷ 2 ∷ 0 ∷ 2 ∷ []) 3 ≡ 0
 
+-- of three instances: 2 0 1, in any order
+abbrev pub RoundOfThree : Type 0
+RoundOfThree = rounds (2 ∷ 0 ∷ 1 ∷ []) 3 ≡ 1
+
+-- 0 1 2 and 2 1 0
+abbrev pub TwoOfThree : Type 0
+TwoOfThree = rounds (0 ∷ 1 ∷ 2 ∷ 2 ∷ 1 ∷ 0 ∷ []) 3 ≡ 2
+
+-- 0 1 0 2 is one round, and in 1 0 1, which are left over, 2 is not among them
+abbrev pub OneOfThree : Type 0
+OneOfThree = rounds (0 ∷ 1 ∷ 0 ∷ 2 ∷ 1 ∷ 0 ∷ 1 ∷ []) 3 ≡ 1
+
+-- no choices have no round, and one of many instances has none
+abbrev pub RoundsOfNothing : Type 0
+RoundsOfNothing = rounds [] 3 ≡ 0
+
+abbrev pub RoundsOfMany : Type 0
+RoundsOfMany = rounds (63 ∷ []) 64 ≡ 0
+
 -- of one instance each choice is a round
 abbrev pub RoundsOfOne : Type 0
 RoundsOfOne = rounds (0 ∷ 0 ∷ 0 ∷ []) 1 ≡ 3
@@ -95,6 +114,11 @@ pub record RoundExamples : Type 0 where
   pub two : TwoRounds
   pub uneven : UnevenRounds
   pub without : NoRoundWithout
+  pub of_three : RoundOfThree
+  pub two_of_three : TwoOfThree
+  pub one_of_three : OneOfThree
+  pub of_nothing : RoundsOfNothing
+  pub of_many : RoundsOfMany
   pub of_one : RoundsOfOne
   pub of_none : RoundsOfNone
   pub shortest_of_one : ShortestOfOne
