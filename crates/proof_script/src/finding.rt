@@ -5,7 +5,7 @@ ghost use Rattle.obligations.specs.Obligations.{IsObligation};
 ghost use Rattle.obligations.specs.declared.branches.Obligation.{Obligation};
 ghost use Rattle.proof_script.specs.Searches.{HasCertificates, Searches};
 
-use crate::offering::{Offers, find_at};
+use crate::offering::{Offers, find_next};
 use obligations::{Cert, Obligation, Variable, units};
 use proof_search::{Found, Proposer};
 use std::alloc::{AllocError, Global};
@@ -78,7 +78,8 @@ fn find<P: Proposer>(
         Searches result before (obligation.now ∷ []) finding.old finding.new }
 {
     let place = finding.certs.as_slice().len();
-    match find_at(alloc, obligation, finding.left, offers, place, proposer) {
+    let certs = finding.certs.as_slice();
+    match find_next(alloc, obligation, finding.left, offers, certs, proposer) {
         Ok(Found::Proved(cert)) => {
             keep(cert, finding)?;
             Ok(())

@@ -2,6 +2,7 @@
 #![tactic(auto)]
 
 mod checking;
+mod copying;
 mod finding;
 mod laws;
 mod offering;

@@ -3,19 +3,23 @@ ghost use Rattle.std.specs.Prelude.{IfOk, IfSome};
 ghost use Rattle.obligations.specs.Obligations.{IsObligation};
 ghost use Rattle.proof_search.specs.from_search_tree.Searching.{SearchAnswers};
 
+use crate::copying::copy_or_search;
+use obligation_copies::Copies;
 use obligations::{Cert, Obligation};
-use proof_search::{Found, Proposer, offered, search};
+use proof_search::{Found, Proposer, offered};
 use std::alloc::{AllocError, Global};
 
 /// How many certificates in a row are offered to an obligation.
 const AHEAD: usize = 8;
 
-/// Certificates that are offered to so many obligations, and the place of the first behind those that were taken.
+/// Certificates that are offered to so many obligations, the place of the first behind those that were taken, and the
+/// obligations that were searched.
 #[derive(Drop)]
 pub(crate) struct Offers {
     pub(crate) certs: Vec<Cert>,
     pub(crate) obligations: usize,
     pub(crate) next: usize,
+    pub(crate) copies: Copies,
 }
 
 // Offers the certificate at a place.
@@ -80,23 +84,24 @@ fn offer_next(
     Ok(None)
 }
 
-/// What is found of the obligation at a place, from 0: by a certificate that is at hand, or else by a search.
-pub(crate) fn find_at<P: Proposer>(
+/// What is found of the obligation behind those with these certificates: by a certificate that is at hand, by that of
+/// one which it is up to the names of its variables, or else by a search.
+pub(crate) fn find_next<P: Proposer>(
     alloc: Global,
     o: &Obligation,
     budget: u64,
     offers: &mut Offers,
-    place: usize,
+    certs: &[Cert],
     proposer: &P,
 ) -> Result<Found, AllocError>
     requires { IsObligation o.now }
     ensures { IfOk result (SearchAnswers o.now budget) }
 {
-    if let Some(found) = offer_from_end(alloc, o, budget, offers, place)? {
+    if let Some(found) = offer_from_end(alloc, o, budget, offers, certs.len())? {
         return Ok(found);
     }
     if let Some(found) = offer_next(alloc, o, budget, offers)? {
         return Ok(found);
     }
-    search(alloc, o, budget, proposer)
+    copy_or_search(alloc, o, budget, certs, &mut offers.copies, proposer)
 }

@@ -15,6 +15,7 @@ use crate::finding::{Finding, Halt, find_all};
 use crate::offering::Offers;
 use crate::plans::Proof;
 use core_terms::CDocument;
+use obligation_copies::no_copies;
 use obligations::Cert;
 use proof_plans::{Plan, Planned, ScriptError, StepFault, plan_by_rules};
 use proof_search::Proposer;
@@ -157,6 +158,7 @@ pub fn repair<P: Proposer>(
         certs,
         obligations: plan.obligations.len(),
         next: 0,
+        copies: no_copies(alloc),
     };
     let mut finding = new_finding(alloc, budget);
     let obligations = plan.obligations.as_slice();
